@@ -1,0 +1,4 @@
+pub mod Packed
+pub mod Undone
+pub mod Single
+pub mod Changed

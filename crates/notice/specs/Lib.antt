@@ -1,0 +1,5 @@
+pub mod Packing
+pub mod Form
+pub mod Lawful
+pub mod Reading
+pub mod Promises

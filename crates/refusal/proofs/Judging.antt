@@ -1,0 +1,41 @@
+-- Tests in their order: what a grant and a refusal tell of each.
+use Prim.Native.Nat.{ℕ}
+use mathlib.Core.Bool.{Bool, true, false}
+use mathlib.Core.List.{List, [], _∷_, _++_}
+use mathlib.Core.Path.{_≡_, refl}
+use native.Mathlib.Omega.{arith}
+use Rattle.refusal.specs.declared.fault.Fault.{Fault}
+use Rattle.refusal.specs.Judging.{judged}
+use Rattle.std.specs.declared.result.Result.the-variants.{Ok, Err}
+use Rattle.std.specs.shelf.Lists.{All}
+
+-- no test holds
+abbrev pub Passed : List (Bool × Fault) → Type 0
+Passed ts = All (λ t. t .0 ≡ false) ts
+
+module _ {A : Type 0} (a b : A) where
+  pub passed : (ts : List (Bool × Fault)) → judged ts a ≡ Ok b → Passed ts
+  passed [] e = tt
+  passed ((true, f) ∷ ts) e = let z : _≡_ {A = ℕ} 0 1 = cc in absurd (omega arith)
+  passed ((false, f) ∷ ts) e = (refl, passed ts e)
+
+  pub passed-value : (ts : List (Bool × Fault)) → judged ts a ≡ Ok b → a ≡ b
+  passed-value [] e = cc
+  passed-value ((true, f) ∷ ts) e = let z : _≡_ {A = ℕ} 0 1 = cc in absurd (omega arith)
+  passed-value ((false, f) ∷ ts) e = passed-value ts e
+
+-- where no test holds, what follows decides
+pub judged-passed : {A : Type 0} (ts us : List (Bool × Fault)) (a : A) → Passed ts → judged (ts ++ us) a ≡ judged us a
+judged-passed [] us a p = refl
+judged-passed ((true, f) ∷ ts) us a p = let z : true ≡ false = p .0 in let y : _≡_ {A = ℕ} 0 1 = cc in absurd (omega arith)
+judged-passed ((false, f) ∷ ts) us a p = judged-passed ts us a (p .1)
+
+-- a fault stays where more tests follow, whatever is granted
+pub judged-fault : {A B : Type 0} (ts us : List (Bool × Fault)) (a : A) (b : B) (f : Fault) → judged ts a ≡ Err f → judged (ts ++ us) b ≡ Err f
+judged-fault [] us a b f e = let z : _≡_ {A = ℕ} 0 1 = cc in absurd (omega arith)
+judged-fault ((true, g) ∷ ts) us a b f e = cc
+judged-fault ((false, g) ∷ ts) us a b f e = judged-fault ts us a b f e
+
+-- the first tests granted something: what follows decides
+pub judged-then : {A B : Type 0} (ts us : List (Bool × Fault)) (a v : A) (b : B) → judged ts a ≡ Ok v → judged (ts ++ us) b ≡ judged us b
+judged-then ts us a v b e = judged-passed ts us b (passed a v ts e)
