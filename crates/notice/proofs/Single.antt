@@ -13,16 +13,18 @@ use Rattle.notice.specs.declared.types.Fields.{Fields}
 use Rattle.notice.specs.declared.types.Notice.{Notice}
 use Rattle.notice.specs.declared.types.Trade.{Trade}
 use Rattle.notice.specs.Form.{layout, listed, fields-from, packed, checked, written, notice-of, fields-of, trade-of}
-use Rattle.notice.specs.Lawful.{Lawful, limits-of, kindless, faults}
+use Rattle.notice.specs.Lawful.{Lawful, lawful, limits-of, kindless, faults}
 use Rattle.notice.specs.Packing.{Fit, Byte, total, join, split, eights, gathered, twelve, two, check-of}
 use Rattle.notice.specs.Promises.{One-form}
 use Rattle.notice.specs.Reading.{all-faults, held-fields, reading}
-use Rattle.refusal.proofs.Judging.{Passed, passed, passed-value}
+use Rattle.refusal.proofs.Judging.{Passed, passed, passed-ok, passed-value}
+use Rattle.refusal.specs.Judging.{judged}
 use Rattle.std.proofs.shelf.Elements.{all-take, all-drop}
 use Rattle.std.proofs.shelf.Lists.{length-take, length-drop, take-all, take-append-drop}
-use Rattle.std.proofs.shelf.Tests.{eqb-true, not-false}
+use Rattle.std.proofs.shelf.Tests.{and-parts, eqb-true, leb-true, not-false}
 use Rattle.std.proofs.shelf.Ways.{tells}
 use Rattle.std.specs.declared.result.Result.the-variants.{Ok}
+use Rattle.std.specs.Orderings.{Decides}
 use Rattle.std.specs.shelf.Lists.{All}
 
 -- the numbers of a slice of bytes are bytes
@@ -41,6 +43,20 @@ lawful-from quarters t h k m p = record {
   last = grind (arith, tells);
   quantity = grind (arith, tells);
 }
+
+pub passes-limits : (quarters : ℕ) (t : Trade) → Lawful quarters t → judged {A = Unit {0}} (limits-of quarters t) tt ≡ Ok tt
+passes-limits quarters t l = grind (arith, tells)
+
+pub decides-lawful : (quarters : ℕ) (t : Trade) → Decides (lawful quarters t) (Lawful quarters t)
+unfolding lawful
+decides-lawful quarters t = (
+  λ e.
+      let p = and-parts _ _ e in
+      let q = and-parts _ _ (p .1) in
+      let r = and-parts _ _ (q .1) in
+      lawful-from quarters t (leb-true _ _ (q .0)) (leb-true _ _ (r .0)) (leb-true _ _ (r .1)) (passed-ok tt (limits-of quarters t) (p .0)),
+  λ l. grind (arith, tells),
+)
 
 -- fields of a right kind are those of the notice that they mean
 pub meant-back : (f : Fields) → kindless f ≡ false → fields-of (notice-of f) ≡ f

@@ -1,14 +1,16 @@
 -- What a notice has to keep to, and why it is refused.
 use Prim.Native.Nat.{ℕ, _≤_}
-use mathlib.Core.Bool.{Bool, _||_}
+use mathlib.Core.Bool.{Bool, _&&_, _||_}
 use mathlib.Core.List.{List, [], _∷_}
 use mathlib.Core.Path.{_≡_}
-use lib.Dec.{eqb, ltb}
+use lib.Dec.{eqb, leb, ltb}
 use Rattle.notice.specs.declared.types.Fields.{Fields}
 use Rattle.notice.specs.declared.types.Trade.{Trade}
 use Rattle.notice.specs.Form.{trade-of}
 use Rattle.refusal.specs.declared.fault.Fault.{Fault}
 use Rattle.refusal.specs.declared.fault.Fault.the-variants.{Kind, QuarterHour, Limit, Number}
+use Rattle.refusal.specs.Judging.{judged}
+use Rattle.std.specs.Results.{isOk}
 
 abbrev pub Within : ℕ → ℕ → ℕ → Type 0
 Within low high x = (low ≤ x) × (x ≤ high)
@@ -43,3 +45,8 @@ kindless f = eqb (f .kind) 0 || ltb 3 (f .kind) || ltb 0 (f .spare) || ltb 0 (f 
 
 abbrev pub faults : ℕ → Fields → List (Bool × Fault)
 faults quarters f = (kindless f, Kind) ∷ limits-of quarters (trade-of f)
+
+-- the same as a test
+unfoldable pub lawful : ℕ → Trade → Bool
+lawful quarters t =
+    isOk (judged {A = Unit {0}} (limits-of quarters t) tt) && (leb (t .number) 65535 && (leb (t .sender) 65535 && leb (t .partner) 65535))

@@ -3,12 +3,13 @@ ghost use lib.ListN.{getD, set};
 ghost use mathlib.Core.Path.{_≡_};
 ghost use Prim.Native.Nat.{ℕ, _<_};
 ghost use Rattle.notice.specs.Form.{bit-of, direction-of, fields-of, notice-of, trade-of, packed, written, layout, listed, filled};
-ghost use Rattle.notice.specs.Lawful.{Lawful, faults, limits-of};
+ghost use Rattle.notice.specs.Lawful.{Lawful, faults, lawful, limits-of};
 ghost use Rattle.notice.specs.Packing.{Byte, Fit};
 ghost use Rattle.notice.specs.Promises.{Read-back, Guarded};
 ghost use Rattle.notice.specs.Reading.{reading};
 ghost use Rattle.refusal.specs.declared.fault.Fault.the-variants.{Check};
 ghost use Rattle.refusal.specs.Judging.{judged};
+ghost use Rattle.std.specs.Orderings.{Decides};
 ghost use Rattle.std.specs.Vec.{made};
 use crate::bits::after;
 use crate::bits::check;
@@ -101,6 +102,16 @@ fn limits(t: Trade, quarters: u8) -> Result<(), Fault>
         return Err(Fault::Number);
     }
     Ok(())
+}
+
+impl Trade {
+    // Whether the trade is lawful in a day of so many quarter-hours.
+    pub fn is_lawful(self, quarters: u8) -> bool
+        ensures test { λ r. ⌜ r ≡ lawful quarters self ⌝ }
+        ensures meaning { λ r. ⌜ Decides r (Lawful quarters self) ⌝ }
+    {
+        limits(self, quarters).is_ok()
+    }
 }
 
 impl Fields {

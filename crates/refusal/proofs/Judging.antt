@@ -7,6 +7,7 @@ use native.Mathlib.Omega.{arith}
 use Rattle.refusal.specs.declared.fault.Fault.{Fault}
 use Rattle.refusal.specs.Judging.{judged}
 use Rattle.std.specs.declared.result.Result.the-variants.{Ok, Err}
+use Rattle.std.specs.Results.{isOk}
 use Rattle.std.specs.shelf.Lists.{All}
 
 -- no test holds
@@ -23,6 +24,11 @@ module _ {A : Type 0} (a b : A) where
   passed-value [] e = cc
   passed-value ((true, f) ∷ ts) e = let z : _≡_ {A = ℕ} 0 1 = cc in absurd (omega arith)
   passed-value ((false, f) ∷ ts) e = passed-value ts e
+
+pub passed-ok : {A : Type 0} (a : A) (ts : List (Bool × Fault)) → isOk (judged ts a) ≡ true → Passed ts
+passed-ok a [] e = tt
+passed-ok a ((true, f) ∷ ts) e = let z : _≡_ {A = ℕ} 0 1 = cc in absurd (omega arith)
+passed-ok a ((false, f) ∷ ts) e = (refl, passed-ok a ts e)
 
 -- where no test holds, what follows decides
 pub judged-passed : {A : Type 0} (ts us : List (Bool × Fault)) (a : A) → Passed ts → judged (ts ++ us) a ≡ judged us a
