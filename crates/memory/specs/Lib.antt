@@ -1,0 +1,6 @@
+pub mod Held
+pub mod Limits
+pub mod Tables
+pub mod Order
+pub mod Ready
+pub mod Pending
