@@ -3,3 +3,4 @@ pub mod Form
 pub mod Lawful
 pub mod Reading
 pub mod Promises
+pub mod Mirror

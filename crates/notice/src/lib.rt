@@ -1,5 +1,6 @@
 // Notices of energy trades: fourteen bytes, the ten fields packed in them, and what they mean.
 mod bits;
+mod mirror;
 mod read;
 mod types;
 mod write;
