@@ -1,3 +1,4 @@
 pub mod Marking
 pub mod Access
 pub mod Meaning
+pub mod Renewed

@@ -4,3 +4,5 @@ pub mod Tables
 pub mod Order
 pub mod Ready
 pub mod Pending
+pub mod Rows
+pub mod With
