@@ -30,7 +30,16 @@ passed-ok a [] e = tt
 passed-ok a ((true, f) ∷ ts) e = let z : _≡_ {A = ℕ} 0 1 = cc in absurd (omega arith)
 passed-ok a ((false, f) ∷ ts) e = (refl, passed-ok a ts e)
 
--- where no test holds, what follows decides
+-- where no test holds, the value is granted; with more tests after them, these decide
+pub judged-all : {A : Type 0} (ts : List (Bool × Fault)) (a : A) → Passed ts → judged ts a ≡ Ok a
+judged-all [] a p = refl
+judged-all ((true, f) ∷ ts) a p = let z : true ≡ false = p .0 in let y : _≡_ {A = ℕ} 0 1 = cc in absurd (omega arith)
+judged-all ((false, f) ∷ ts) a p = judged-all ts a (p .1)
+
+pub passed-both : (ts us : List (Bool × Fault)) → Passed ts → Passed us → Passed (ts ++ us)
+passed-both [] us p q = q
+passed-both ((b, f) ∷ ts) us p q = (p .0, passed-both ts us (p .1) q)
+
 pub judged-passed : {A : Type 0} (ts us : List (Bool × Fault)) (a : A) → Passed ts → judged (ts ++ us) a ≡ judged us a
 judged-passed [] us a p = refl
 judged-passed ((true, f) ∷ ts) us a p = let z : true ≡ false = p .0 in let y : _≡_ {A = ℕ} 0 1 = cc in absurd (omega arith)

@@ -1,6 +1,7 @@
 -- What the tests over a register's numbers say.
-use Prim.Native.Nat.{ℕ, zero, suc, _<_}
+use Prim.Native.Nat.{ℕ, _+_, _<_}
 use native.Mathlib.Omega.{arith}
+use borrow.Author.Count.{below-more}
 use mathlib.Core.Bool.{Bool, true, false, not, _&&_}
 use mathlib.Core.Logic.{_≢_, ⊎-elim}
 use mathlib.Core.List.{List}
@@ -40,3 +41,15 @@ apart f n all i j l k same = ⊎-elim (λ is. is) (⊎-elim (λ lt. absurd (all 
 -- the number that the code read at place i
 pub at-read : {X : Type 0} (f : X → ℕ) (xs : List X) (i : ℕ) (x : X) (n : ℕ) (d : X) → i < length xs → x ≡ getD xs i x → n ≡ f x → f (getD xs i d) ≡ n
 at-read f xs i x n d l is e = ap f (sym (getD-read xs i x l is d)) ∙ sym e
+
+-- A number entered in the place after the last: f′ is f below place k, and bears a new number there.
+module _ (f f′ : ℕ → ℕ) (k : ℕ) (below : (i : ℕ) → i < k → f′ i ≡ f i) where
+  pub entered-more : (n : ℕ) → Entered k f n → Entered (k + 1) f′ n
+  entered-more n s = (s .0, omega arith, below (s .0) (s .1) ∙ s .2)
+
+  pub distinct-more : Distinct f k → f′ k ≢ 0 → Unborne (f′ k) f k → Distinct f′ (k + 1)
+  unfolding Distinct
+  distinct-more all ne new =
+      below-more _ k
+      (λ i l. (λ z. all i l .0 (sym (below i l) ∙ z), λ j h s. all i l .1 j h (sym (below j (omega arith)) ∙ s ∙ below i l)))
+      (ne, λ j h s. new j h (sym (below j h) ∙ s))
