@@ -1,13 +1,13 @@
 -- What the entry of a party gives.
 use Prim.Native.Nat.{ℕ, _+_}
 use lib.Dec.{eqb, leb}
-use lib.ListN.{length, getD, set}
+use lib.ListN.{length, set}
 use mathlib.Core.Bool.{Bool}
 use mathlib.Core.List.{List, [], _∷_, _++_}
 use Rattle.day.specs.Outcome.{Outcome, Grant, concluded}
 use Rattle.memory.specs.declared.types.Extent.{Extent}
 use Rattle.memory.specs.declared.types.Party.{Party}
-use Rattle.memory.specs.Held.{Held, no-party, no-mills, no-outside}
+use Rattle.memory.specs.Held.{Held, no-mills, no-outside, party-numbers}
 use Rattle.memory.specs.Ready.{memory-faults}
 use Rattle.memory.specs.Rows.{row-filled}
 use Rattle.memory.specs.With.{with-parties, with-outside, with-amounts, with-billed, with-party-count}
@@ -19,7 +19,7 @@ use Rattle.register.specs.Numbers.{knows}
 -- the number is used, or there is no place after the last
 abbrev pub party-faults : ℕ → List Party → ℕ → List (Bool × Fault)
 party-faults used parties n =
-    (knows used (λ k. getD parties k no-party .number) n, NumberUsed) ∷ (leb (length parties) used, RegisterFull) ∷ []
+    (knows used (party-numbers parties) n, NumberUsed) ∷ (leb (length parties) used, RegisterFull) ∷ []
 
 -- the party in the place after the last; its outside figures, amount and sum billed are zero
 abbrev pub party-entered : Extent → Held → ℕ → Grant

@@ -1,3 +1,5 @@
 pub mod Opening
 pub mod Outcome
 pub mod Entering
+pub mod Noticing
+pub mod Answering

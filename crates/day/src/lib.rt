@@ -2,6 +2,7 @@
 mod open;
 mod party;
 mod rows;
+mod submission;
 mod types;
 
 pub use types::BilledDay;

@@ -82,6 +82,16 @@ no-outside = record { exchange = no-kwh; correction = no-kwh }
 abbrev pub no-mills : Mills
 no-mills = record { 0 = pos 0 }
 
+-- the numbers of a register, by place
+abbrev pub party-numbers : List Party → ℕ → ℕ
+party-numbers ps i = getD ps i no-party .number
+
+abbrev pub point-numbers : List Point → ℕ → ℕ
+point-numbers ps x = getD ps x no-point .number
+
+abbrev pub notice-numbers : List NoticeRecord → ℕ → ℕ
+notice-numbers ns j = getD ns j no-notice .trade .number
+
 module _ (m : Held) where
   abbrev pub point : ℕ → Point
   point x = getD (m .points) x no-point
@@ -89,15 +99,14 @@ module _ (m : Held) where
   abbrev pub notice : ℕ → NoticeRecord
   notice j = getD (m .notices) j no-notice
 
-  -- the numbers of a register, by place
   abbrev pub party-number : ℕ → ℕ
-  party-number i = getD (m .parties) i no-party .number
+  party-number i = party-numbers (m .parties) i
 
   abbrev pub point-number : ℕ → ℕ
-  point-number x = point x .number
+  point-number x = point-numbers (m .points) x
 
   abbrev pub notice-number : ℕ → ℕ
-  notice-number j = notice j .trade .number
+  notice-number j = notice-numbers (m .notices) j
 
   -- the figures of a place in the quarter-hour q, counted from 0
   abbrev pub reading : ℕ → ℕ → Option Reading

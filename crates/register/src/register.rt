@@ -23,7 +23,8 @@ pub struct Register<'a, R> {
 impl<'a, R: Numbered + Copy> Register<'a, R> {
     // The place of the first record that bears the number.
     pub fn find(&self, number: u16) -> Option<usize>
-        ensures { λ r. ⌜ r ≡ place-of (in-use numeral unset (now (self .entry) .used) (now (now (self .entry) .places))) (numbers numeral unset (now (now (self .entry) .places))) number ⌝ }
+        ensures place { λ r. ⌜ r ≡ place-of (in-use numeral unset (now (self .entry) .used) (now (now (self .entry) .places))) (numbers numeral unset (now (now (self .entry) .places))) number ⌝ }
+        ensures first { λ r. ⌜ BySome r (Unborne number (numbers numeral unset (now (now (self .entry) .places))) (in-use numeral unset (now (self .entry) .used) (now (now (self .entry) .places)))) (λ i. FirstAt number (numbers numeral unset (now (now (self .entry) .places))) (in-use numeral unset (now (self .entry) .used) (now (now (self .entry) .places))) i) ⌝ }
     {
         find_place(self.places, self.used, number)
     }
@@ -70,7 +71,8 @@ impl<'a, R: Numbered + Copy> Register<'a, R> {
 
 // The same search over a slice.
 pub fn find_place<R: Numbered>(places: &[R], used: usize, number: u16) -> Option<usize>
-    ensures { λ r. ⌜ r ≡ place-of (in-use numeral unset used (now (places .entry))) (numbers numeral unset (now (places .entry))) number ⌝ }
+    ensures place { λ r. ⌜ r ≡ place-of (in-use numeral unset used (now (places .entry))) (numbers numeral unset (now (places .entry))) number ⌝ }
+    ensures first { λ r. ⌜ BySome r (Unborne number (numbers numeral unset (now (places .entry))) (in-use numeral unset used (now (places .entry)))) (λ i. FirstAt number (numbers numeral unset (now (places .entry))) (in-use numeral unset used (now (places .entry))) i) ⌝ }
 {
     first_place(places, used.min(places.len()), number)
 }

@@ -4,4 +4,4 @@ use Rattle.register.proofs.register.Register.knows.Needs as need
 use Rattle.std.specs.Options.{isSome}
 
 pub returns : need.returns
-returns g c = c .is-some .ensures ∙ ap isSome (c .find .ensures) ∙ known-place _ _ _
+returns g c = c .is-some .ensures ∙ ap isSome (c .find .ensures .place) ∙ known-place _ _ _
