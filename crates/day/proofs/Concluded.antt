@@ -49,3 +49,7 @@ same-outcome o p answer extent parties points notices readings outside imbalance
             bills = bills j;
           };
     }
+
+-- the first tests refuse
+pub refused-first : (e : Extent) (m : Held) (ts us : List (Bool × Fault)) (g : Grant) (f : Fault) → judged {A = Unit {0}} ts tt ≡ Err f → concluded e m (judged (ts ++ us) g) ≡ record { answer = Err f; extent = e; memory = m }
+refused-first e m ts us g f r = ap (concluded e m) (judged-fault ts us tt g f r)

@@ -1,2 +1,4 @@
 pub mod Concluded
 pub mod PartyKept
+pub mod NoticeKept
+pub mod Answered

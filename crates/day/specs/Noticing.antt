@@ -17,6 +17,7 @@ use Rattle.memory.specs.With.{with-notices, with-notice-count}
 use Rattle.notice.specs.declared.types.Notice.{Notice}
 use Rattle.notice.specs.declared.types.Notice.the-variants.{Lodging, Confirmation, Withdrawal}
 use Rattle.notice.specs.declared.types.Trade.{Trade}
+use Rattle.notice.specs.Form.{stated}
 use Rattle.notice.specs.Mirror.{mirror, same-trade}
 use Rattle.notice.specs.Reading.{reading}
 use Rattle.refusal.specs.declared.fault.Fault.{Fault}
@@ -27,12 +28,6 @@ use Rattle.std.specs.declared.option.Option.{Option}
 use Rattle.std.specs.declared.result.Result.{Result}
 use Rattle.std.specs.declared.result.Result.the-variants.{Ok, Err}
 use Rattle.std.specs.Options.{isSome, valueOr}
-
--- the trade that a notice states
-abbrev pub stated : Notice → Trade
-stated (Lodging t) = t
-stated (Confirmation t) = t
-stated (Withdrawal t) = t
 
 -- its sender or its partner is not among the parties
 abbrev pub party-unknown : ℕ → List Party → Trade → Bool

@@ -12,7 +12,7 @@ use Rattle.notice.proofs.Packed.{join-high, split-join, join-whole}
 use Rattle.notice.specs.declared.types.Fields.{Fields}
 use Rattle.notice.specs.declared.types.Notice.{Notice}
 use Rattle.notice.specs.declared.types.Trade.{Trade}
-use Rattle.notice.specs.Form.{layout, listed, fields-from, packed, checked, written, notice-of, fields-of, trade-of}
+use Rattle.notice.specs.Form.{layout, listed, fields-from, packed, checked, written, notice-of, fields-of, trade-of, stated}
 use Rattle.notice.specs.Lawful.{Lawful, lawful, limits-of, kindless, faults}
 use Rattle.notice.specs.Packing.{Fit, Byte, total, join, split, eights, gathered, twelve, two, check-of}
 use Rattle.notice.specs.Promises.{One-form}
@@ -96,6 +96,17 @@ closed m xs ys d e f = ap checked d ∙ ap (λ zs. xs ++ zs) (ap (split two) f �
 cut : (bs : List ℕ) → length bs ≡ 14 → take 12 bs ++ take 2 (drop 12 bs) ≡ bs
 cut bs long = let l : length (drop 12 bs) ≤ 2 = simp length-drop (omega arith) in rw (take-all 2 (drop 12 bs) l) (take-append-drop 12 bs)
 
+states : (f : Fields) → stated (notice-of f) ≡ trade-of f
+states f = grind (arith, tells)
+
+-- what is read is lawful
+pub read-lawful : (q : ℕ) (bs : List ℕ) (n : Notice) → reading q bs ≡ Ok n → Lawful q (stated n)
+read-lawful q bs n e =
+    let f = held-fields bs in
+    let p = passed (notice-of f) n (all-faults q bs) e in
+    let same = passed-value (notice-of f) n (all-faults q bs) e in
+    subst (Lawful q) (sym (states f) ∙ ap stated same) (lawful-from q (trade-of f) (omega arith) (omega arith) (omega arith) (p .1 .1 .1))
+
 -- bytes that are read, as whatever of their fields
 module _ (q : ℕ) (bs : List ℕ) (bytes : All Byte bs) (p : Passed (all-faults q bs)) where
   pub its-form : written (held-fields bs) ≡ bs
@@ -110,9 +121,6 @@ module _ (q : ℕ) (bs : List ℕ) (bytes : All Byte bs) (p : Passed (all-faults
       let small : m < 2 ^ 96 = omega (arith, bounded 12 (take 12 bs) front fronts) in
       let form = closed m (take 12 bs) (take 2 (drop 12 bs)) (spelled 12 (take 12 bs) front fronts) (spelled 2 (take 2 (drop 12 bs)) back backs) check in
       ap (λ x. checked (split twelve x)) (regained m small) ∙ form ∙ cut bs long
-
-  pub its-lawful : Lawful q (trade-of (held-fields bs))
-  its-lawful = lawful-from q (trade-of (held-fields bs)) (omega arith) (omega arith) (omega arith) (p .1 .1 .1)
 
 -- the form of what is read
 pub form-of : (q : ℕ) (bs : List ℕ) (n : Notice) → All Byte bs → reading q bs ≡ Ok n → written (fields-of n) ≡ bs

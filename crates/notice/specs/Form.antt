@@ -99,3 +99,9 @@ abbrev pub fields-of : Notice → Fields
 fields-of (Lodging t) = fields-as 1 t
 fields-of (Confirmation t) = fields-as 2 t
 fields-of (Withdrawal t) = fields-as 3 t
+
+-- the trade that a notice states
+abbrev pub stated : Notice → Trade
+stated (Lodging t) = t
+stated (Confirmation t) = t
+stated (Withdrawal t) = t

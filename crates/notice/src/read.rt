@@ -1,6 +1,7 @@
 // Reading: from bytes to the fields, and to what they mean.
 ghost use mathlib.Core.Path.{_≡_};
-ghost use Rattle.notice.specs.Form.{fields-from, layout};
+ghost use Rattle.notice.specs.Form.{fields-from, layout, stated};
+ghost use Rattle.notice.specs.Lawful.{Lawful};
 ghost use Rattle.notice.specs.Packing.{split};
 ghost use Rattle.notice.specs.Promises.{One-form};
 ghost use Rattle.notice.specs.Reading.{byte-faults, held-fields, reading, reading-fields};
@@ -59,6 +60,7 @@ impl Notice {
     // The notice that the bytes mean in a day of so many quarter-hours, or why they are refused.
     pub fn read(bytes: &[u8], quarters: u8) -> Result<Notice, Fault>
         ensures answer { λ r. ⌜ r ≡ reading quarters (now (bytes .entry)) ⌝ }
+        ensures lawful { λ r. ⌜ made r (λ n. Lawful quarters (stated n)) ⌝ }
         ensures single { λ r. ⌜ made r (One-form (now (bytes .entry))) ⌝ }
     {
         let fields = parse(bytes)?;

@@ -2,11 +2,12 @@
 use Prim.Native.Nat.{ℕ}
 use mathlib.Core.Bool.{Bool, true, false}
 use mathlib.Core.List.{List, [], _∷_, _++_}
-use mathlib.Core.Path.{_≡_, refl}
+use mathlib.Core.Path.{_≡_, refl, ap}
 use native.Mathlib.Omega.{arith}
 use Rattle.refusal.specs.declared.fault.Fault.{Fault}
 use Rattle.refusal.specs.Judging.{judged}
 use Rattle.std.specs.declared.result.Result.the-variants.{Ok, Err}
+use Rattle.std.specs.Orderings.{Decides}
 use Rattle.std.specs.Results.{isOk}
 use Rattle.std.specs.shelf.Lists.{All}
 
@@ -54,3 +55,11 @@ judged-fault ((false, g) ∷ ts) us a b f e = judged-fault ts us a b f e
 -- the first tests granted something: what follows decides
 pub judged-then : {A B : Type 0} (ts us : List (Bool × Fault)) (a v : A) (b : B) → judged ts a ≡ Ok v → judged (ts ++ us) b ≡ judged us b
 judged-then ts us a v b e = judged-passed ts us b (passed a v ts e)
+
+-- a grant tells that no test held, and the other way round
+pub decides-passed : {A : Type 0} (ts : List (Bool × Fault)) (a : A) → Decides (isOk (judged ts a)) (Passed ts)
+decides-passed ts a = (passed-ok a ts, λ p. ap isOk (judged-all ts a p))
+
+pub passed-parts : (ts us : List (Bool × Fault)) → Passed (ts ++ us) → Passed ts × Passed us
+passed-parts [] us p = (tt, p)
+passed-parts ((b, f) ∷ ts) us p = ((p .0, passed-parts ts us (p .1) .0), passed-parts ts us (p .1) .1)

@@ -53,3 +53,8 @@ module _ (f f′ : ℕ → ℕ) (k : ℕ) (below : (i : ℕ) → i < k → f′ 
       below-more _ k
       (λ i l. (λ z. all i l .0 (sym (below i l) ∙ z), λ j h s. all i l .1 j h (sym (below j (omega arith)) ∙ s ∙ below i l)))
       (ne, λ j h s. new j h (sym (below j h) ∙ s))
+
+-- the same numbers in the same places
+pub distinct-same : (f f′ : ℕ → ℕ) (n : ℕ) → ((i : ℕ) → f′ i ≡ f i) → Distinct f n → Distinct f′ n
+unfolding Distinct
+distinct-same f f′ n same all i l = (λ z. all i l .0 (sym (same i) ∙ z), λ j h s. all i l .1 j h (sym (same j) ∙ s ∙ same i))

@@ -1,8 +1,8 @@
 use mathlib.Core.Path.{_≡_, sym, _∙_, ap}
-use Rattle.notice.proofs.Single.{all-bytes, one-form}
+use Rattle.notice.proofs.Single.{all-bytes, one-form, read-lawful}
 use Rattle.notice.proofs.types.Notice.read.Needs as need
-use Rattle.notice.specs.Form.{notice-of}
-use Rattle.notice.specs.Lawful.{faults}
+use Rattle.notice.specs.Form.{notice-of, stated}
+use Rattle.notice.specs.Lawful.{Lawful, faults}
 use Rattle.notice.specs.Promises.{One-form}
 use Rattle.notice.specs.Reading.{byte-faults, held-fields, reading}
 use Rattle.refusal.proofs.Judging.{passed-value, judged-then, judged-fault}
@@ -22,13 +22,17 @@ single-from : (q : ℕ) (bs : List ℕ) → All Byte bs → (r : Result Notice F
 single-from q bs h (Ok n) e = one-form q bs n h (sym e)
 single-from q bs h (Err f) e = tt
 
+lawful-from-reading : (q : ℕ) (bs : List ℕ) (r : Result Notice Fault) → r ≡ reading q bs → made r (λ n. Lawful q (stated n))
+lawful-from-reading q bs (Ok n) e = read-lawful q bs n (sym e)
+lawful-from-reading q bs (Err f) e = tt
+
 pub returns-in-Break-fields : need.returns-in-Break-fields
 returns-in-Break-fields c =
     let p = err-from-errBy (c .from-residual .result) (c .from-residual .ensures .1) in
     let bs = c .args .bytes .now in
     let f = held-fields bs in
     let e = sym (judged-fault (byte-faults bs) (faults (c .args .quarters) f) f (notice-of f) _ (sym (c .in-Break-fields .ensures tt))) in
-    rw (p .1, p .2) (record { answer = e; single = tt })
+    rw (p .1, p .2) (record { answer = e; lawful = tt; single = tt })
 
 pub returns : need.returns
 returns c =
@@ -39,4 +43,4 @@ returns c =
     let same = passed-value f (c .in-Continue-fields .fields) (byte-faults bs) e in
     let answer : c .notice .result ≡ reading q bs =
     c .notice .ensures .answer ∙ ap (λ x. judged (faults q x) (notice-of x)) (sym same) ∙ sym (judged-then (byte-faults bs) (faults q f) f _ (notice-of f) e) in
-    record { answer = answer; single = single-from q bs (all-bytes bs (c .typed .bytes)) (c .notice .result) answer }
+    record { answer = answer; lawful = lawful-from-reading q bs (c .notice .result) answer; single = single-from q bs (all-bytes bs (c .typed .bytes)) (c .notice .result) answer }
