@@ -1,3 +1,4 @@
+pub mod Days
 pub mod Opening
 pub mod Outcome
 pub mod Entering

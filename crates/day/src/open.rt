@@ -1,5 +1,6 @@
 // Opening and shutting a day.
 ghost use mathlib.Core.Path.{_≡_};
+ghost use Rattle.day.specs.Days.{open-extent, shut-extent};
 ghost use Rattle.day.specs.Opening.{Opened};
 use crate::types::*;
 use calendar::DeliveryDay;
@@ -24,7 +25,7 @@ impl OpenDay {
 
     // Shuts the day: nothing more is entered.
     pub fn shut(self) -> ShutDay
-        ensures { λ r. ⌜ r .extent ≡ self .extent ⌝ }
+        ensures { λ r. ⌜ shut-extent r ≡ open-extent self ⌝ }
     {
         let OpenDay { extent } = self;
         ShutDay { extent }
@@ -32,7 +33,7 @@ impl OpenDay {
 
     // The day, and how many records it has.
     pub fn extent(&self) -> Extent
-        ensures { λ r. ⌜ r ≡ now (self .entry) .extent ⌝ }
+        ensures { λ r. ⌜ r ≡ open-extent (now (self .entry)) ⌝ }
     {
         self.extent
     }
@@ -41,7 +42,7 @@ impl OpenDay {
 impl ShutDay {
     // The day, and how many records it has.
     pub fn extent(&self) -> Extent
-        ensures { λ r. ⌜ r ≡ now (self .entry) .extent ⌝ }
+        ensures { λ r. ⌜ r ≡ shut-extent (now (self .entry)) ⌝ }
     {
         self.extent
     }

@@ -3,6 +3,7 @@ ghost use lib.ListN.{length, set};
 ghost use mathlib.Core.Bool.{cond};
 ghost use mathlib.Core.Path.{_≡_};
 ghost use Prim.Native.Nat.{_+_, _*_, _≤_};
+ghost use Rattle.day.specs.Days.{open-extent};
 ghost use Rattle.day.specs.Entering.{entering-party, party-faults};
 ghost use Rattle.day.specs.Outcome.{Outcome};
 ghost use Rattle.memory.specs.Held.{held, left, no-mills, no-outside};
@@ -33,8 +34,8 @@ const NO_OUTSIDE: Outside = Outside {
 impl OpenDay {
     // Enters a party in the place after the last. Its outside figures, amount and sum billed are zero.
     pub fn enter_party(&mut self, memory: Memory, number: u16) -> Result<(), Fault>
-        ensures outcome { λ r. ⌜ entering-party (now (self .entry) .extent) (held (memory .entry)) number ≡ record { answer = r; extent = now (self .exit) .extent; memory = left (memory .exit) } ⌝ }
-        ensures kept { λ r. ⌜ made r (λ _. Sized (now (self .exit) .extent) (left (memory .exit)) × InOrder (now (self .exit) .extent) (left (memory .exit))) ⌝ }
+        ensures outcome { λ r. ⌜ entering-party (open-extent (now (self .entry))) (held (memory .entry)) number ≡ record { answer = r; extent = open-extent (now (self .exit)); memory = left (memory .exit) } ⌝ }
+        ensures kept { λ r. ⌜ made r (λ _. Sized (open-extent (now (self .exit))) (left (memory .exit)) × InOrder (open-extent (now (self .exit))) (left (memory .exit))) ⌝ }
     {
         if number == 0 {
             return Err(Fault::Number);

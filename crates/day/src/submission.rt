@@ -3,6 +3,7 @@ ghost use lib.ListN.{length};
 ghost use mathlib.Core.Bool.{cond};
 ghost use mathlib.Core.Path.{_≡_};
 ghost use Prim.Native.Nat.{_≤_};
+ghost use Rattle.day.specs.Days.{open-extent};
 ghost use Rattle.day.specs.Answering.{Answers};
 ghost use Rattle.day.specs.Noticing.{noticing, party-unknown, kind-faults, lodging-faults, answer-faults, lodged, restaged, recorded, used-after};
 ghost use Rattle.memory.specs.Held.{held, left, party-numbers};
@@ -33,9 +34,9 @@ use register::find_place;
 impl OpenDay {
     // Takes a notice of fourteen bytes: enters a lodging, or confirms or withdraws the one that it answers.
     pub fn notice(&mut self, memory: Memory, bytes: &[u8]) -> Result<(), Fault>
-        ensures outcome { λ r. ⌜ noticing (now (self .entry) .extent) (held (memory .entry)) (now (bytes .entry)) ≡ record { answer = r; extent = now (self .exit) .extent; memory = left (memory .exit) } ⌝ }
-        ensures kept { λ r. ⌜ made r (λ _. Sized (now (self .exit) .extent) (left (memory .exit)) × InOrder (now (self .exit) .extent) (left (memory .exit))) ⌝ }
-        ensures answers { λ r. ⌜ Answers (now (self .entry) .extent) (held (memory .entry)) (now (bytes .entry)) r ⌝ }
+        ensures outcome { λ r. ⌜ noticing (open-extent (now (self .entry))) (held (memory .entry)) (now (bytes .entry)) ≡ record { answer = r; extent = open-extent (now (self .exit)); memory = left (memory .exit) } ⌝ }
+        ensures kept { λ r. ⌜ made r (λ _. Sized (open-extent (now (self .exit))) (left (memory .exit)) × InOrder (open-extent (now (self .exit))) (left (memory .exit))) ⌝ }
+        ensures answers { λ r. ⌜ Answers (open-extent (now (self .entry))) (held (memory .entry)) (now (bytes .entry)) r ⌝ }
     {
         let notice = Notice::read(bytes, self.extent.day.count)?;
         ready(&self.extent, &memory)?;

@@ -1,9 +1,9 @@
 // The log of a day's notices.
-use crate::store::Store;
 use day::OpenDay;
 use std::alloc::Global;
 use std::error::AnyError;
 use std::fmt;
+use store::Store;
 
 const DAY: u16 = 2;
 

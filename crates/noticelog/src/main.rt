@@ -1,6 +1,5 @@
 // Reads the notices of one day from standard input, and prints for each its place, its refusal and how many notices then wait.
 mod log;
-mod store;
 
 use log::LineDisplay;
 use log::MOST_BYTES;
