@@ -44,7 +44,7 @@ pub fn log(heap: Global, bytes: &[u8]) -> Result<Vec<Line>, AnyError> {
     let Ok(mut day) = OpenDay::open(DAY, QUARTERS) else {
         return Err("the day does not open".into());
     };
-    let mut store = Store::new(heap, PARTIES, MOST_NOTICES)?;
+    let mut store = Store::new(heap, PARTIES, 0, MOST_NOTICES)?;
     for number in 1..=PARTIES {
         if store.enter_party(&mut day, number).is_err() {
             return Err("a party is not entered".into());

@@ -4,8 +4,8 @@ ghost use Rattle.day.specs.Days.{open-extent};
 ghost use Rattle.day.specs.Entering.{entering-party};
 ghost use Rattle.day.specs.Noticing.{noticing};
 ghost use Rattle.memory.specs.Pending.{count-pending};
-ghost use Rattle.store.specs.Stored.{stored};
-ghost use Rattle.std.specs.Of.Vec.{vec-items};
+ghost use Rattle.store.specs.Stored.{stored, blank};
+ghost use Rattle.std.specs.Vec.{made};
 use crate::types::Store;
 use day::OpenDay;
 use memory::Memory;
@@ -27,6 +27,13 @@ use units::Mills;
 // A place that holds no record, and a figure that was never written.
 const NO_PARTY: Party = Party { number: 0 };
 
+const NO_POINT: Point = Point {
+    number: 0,
+    party: 0,
+    head: 0,
+    rate: 0,
+};
+
 const NO_NOTICE: NoticeRecord = NoticeRecord {
     trade: Trade {
         number: 0,
@@ -37,7 +44,7 @@ const NO_NOTICE: NoticeRecord = NoticeRecord {
         last: 0,
         quantity: 0,
     },
-    stage: Stage::Withdrawn,
+    stage: Stage::Pending,
 };
 
 const NO_OUTSIDE: Outside = Outside {
@@ -46,19 +53,23 @@ const NO_OUTSIDE: Outside = Outside {
 };
 
 impl Store {
-    pub fn new(heap: Global, parties: u16, notices: u16) -> Result<Store, AllocError> {
-        let places = parties as usize;
-        let figures = places * 100;
+    // Room for so many records of each kind, with nothing entered.
+    pub fn new(heap: Global, parties: u16, points: u16, notices: u16) -> Result<Store, AllocError>
+        ensures { λ r. ⌜ made r (λ s. stored s ≡ blank parties points notices) ⌝ }
+    {
+        let parties = parties as usize;
+        let points = points as usize;
+        let notices = notices as usize;
         Ok(Store {
-            parties: vec![in heap; NO_PARTY; places]?,
-            points: Vec::new(heap),
-            notices: vec![in heap; NO_NOTICE; notices as usize]?,
-            readings: Vec::new(heap),
-            outside: vec![in heap; NO_OUTSIDE; figures]?,
-            imbalances: vec![in heap; Kwh(0); figures]?,
-            amounts: vec![in heap; Mills(0); places]?,
-            billed: vec![in heap; Mills(0); places]?,
-            bills: vec![in heap; Mills(0); places]?,
+            parties: vec![in heap; NO_PARTY; parties]?,
+            points: vec![in heap; NO_POINT; points]?,
+            notices: vec![in heap; NO_NOTICE; notices]?,
+            readings: vec![in heap; None; points * 100]?,
+            outside: vec![in heap; NO_OUTSIDE; parties * 100]?,
+            imbalances: vec![in heap; Kwh(0); parties * 100]?,
+            amounts: vec![in heap; Mills(0); parties]?,
+            billed: vec![in heap; Mills(0); parties]?,
+            bills: vec![in heap; Mills(0); parties]?,
         })
     }
 
