@@ -1,7 +1,5 @@
 // Delivery days: a number and a count of quarter-hours, checked once.
 mod check;
 mod delivery_day;
-#[cfg(test)]
-mod tests;
 
 pub use delivery_day::DeliveryDay;

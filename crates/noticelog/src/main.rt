@@ -1,5 +1,7 @@
 // Reads the notices of one day from standard input, and prints for each its place, its refusal and how many notices then wait.
 mod log;
+#[cfg(test)]
+mod tests;
 
 use log::LineDisplay;
 use log::MOST_BYTES;

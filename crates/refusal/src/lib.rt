@@ -1,7 +1,5 @@
 // Why a call is refused: one fault for all calls, and the four numbers that a refusal is given out as.
 mod fault;
-#[cfg(test)]
-mod tests;
 mod values;
 
 pub use fault::Fault;

@@ -1,4 +1,5 @@
-use crate::fault::Fault;
+// The four numbers of a refusal.
+use refusal::Fault;
 use std::test::*;
 
 fn four(fault: Fault) -> (u8, u16, u8, u8) {

@@ -1,4 +1,5 @@
-use crate::DeliveryDay;
+// The numbers and counts that a day may have.
+use calendar::DeliveryDay;
 use refusal::Fault;
 use refusal::FaultDebug;
 use refusal::FaultPartialEq;
