@@ -2,6 +2,7 @@
 mod open;
 mod party;
 mod rows;
+mod shut;
 mod submission;
 mod types;
 

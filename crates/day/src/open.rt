@@ -38,12 +38,3 @@ impl OpenDay {
         self.extent
     }
 }
-
-impl ShutDay {
-    // The day, and how many records it has.
-    pub fn extent(&self) -> Extent
-        ensures { λ r. ⌜ r ≡ shut-extent (now (self .entry)) ⌝ }
-    {
-        self.extent
-    }
-}
