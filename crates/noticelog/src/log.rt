@@ -1,66 +1,60 @@
 // The log of a day's notices.
+ghost use mathlib.Core.Path.{_≡_};
+ghost use Rattle.day.specs.Days.{open-extent};
+ghost use Rattle.day.specs.Noticing.{noticing};
+ghost use Rattle.noticelog.specs.Log.{line-of, log-from, notices-in};
+ghost use Rattle.std.specs.Of.Vec.{vec-items};
+ghost use Rattle.std.specs.Vec.{made};
+ghost use Rattle.store.specs.Stored.{stored};
+use crate::line::Line;
 use day::OpenDay;
+use std::alloc::AllocError;
 use std::alloc::Global;
-use std::error::AnyError;
-use std::fmt;
 use store::Store;
-
-const DAY: u16 = 2;
-
-const QUARTERS: u8 = 96;
-
-const PARTIES: u16 = 8;
 
 // A notice has fourteen bytes; a short rest counts as one.
 const NOTICE_BYTES: usize = 14;
 
 // What follows this many notices is not read as a notice.
-const MOST_NOTICES: u16 = 64;
+const MOST_NOTICES: usize = 64;
 
-pub const MOST_BYTES: u64 = 64 * 14;
-
-// What became of a notice.
-#[derive(Clone, Copy, PartialEq, Eq, Debug)]
-pub struct Line {
-    // Its place among the notices, counted from 1.
-    pub place: usize,
-    // The number of its refusal, or 0.
-    pub refusal: u8,
-    // How many notices then wait.
-    pub pending: usize,
-}
-
-pub impl fmt::Display for Line as LineDisplay {
-    fn fmt<W: fmt::Write>(&self, f: &mut fmt::Formatter<W>) -> fmt::Result {
-        let place = self.place;
-        let refusal = self.refusal;
-        let pending = self.pending;
-        write!(f, "{place} {refusal} {pending}")
-    }
-}
-
-// Opens day 2 with parties 1 to 8, and takes the notices one after the other.
-pub fn log(heap: Global, bytes: &[u8]) -> Result<Vec<Line>, AnyError> {
-    let Ok(mut day) = OpenDay::open(DAY, QUARTERS) else {
-        return Err("the day does not open".into());
+// Takes one notice, and says what became of it.
+fn take_notice(day: &mut OpenDay, store: &mut Store, place: usize, bytes: &[u8]) -> Line
+    ensures line { λ r. ⌜ r ≡ line-of place (noticing (open-extent (now (day .entry))) (stored (now (store .entry))) (now (bytes .entry))) ⌝ }
+    ensures extent { λ _. ⌜ open-extent (now (day .exit)) ≡ noticing (open-extent (now (day .entry))) (stored (now (store .entry))) (now (bytes .entry)) .extent ⌝ }
+    ensures memory { λ _. ⌜ stored (now (store .exit)) ≡ noticing (open-extent (now (day .entry))) (stored (now (store .entry))) (now (bytes .entry)) .memory ⌝ }
+{
+    let answer = store.notice(day, bytes);
+    let refusal = match answer {
+        Ok(()) => 0,
+        Err(fault) => fault.number(),
     };
-    let mut store = Store::new(heap, PARTIES, 0, MOST_NOTICES)?;
-    for number in 1..=PARTIES {
-        if store.enter_party(&mut day, number).is_err() {
-            return Err("a party is not entered".into());
-        }
+    let pending = store.pending(day);
+    Line {
+        place,
+        refusal,
+        pending,
     }
+}
+
+// Takes the notices in the bytes one after the other.
+pub fn log(
+    heap: Global,
+    day: &mut OpenDay,
+    store: &mut Store,
+    bytes: &[u8],
+) -> Result<Vec<Line>, AllocError>
+    ensures { λ r. ⌜ made r (λ lines. vec-items lines ≡ log-from 1 (open-extent (now (day .entry))) (stored (now (store .entry))) (notices-in 64 (now (bytes .entry)))) ⌝ }
+{
     let mut lines = Vec::new(heap);
-    for notice in bytes.chunks(NOTICE_BYTES).take(MOST_NOTICES as usize) {
-        let refusal = match store.notice(&mut day, notice) {
-            Ok(()) => 0,
-            Err(fault) => fault.number(),
-        };
-        lines.push(Line {
-            place: lines.len() + 1,
-            refusal,
-            pending: store.pending(&day),
-        })?;
+    let mut rest = bytes;
+    for place in 0..MOST_NOTICES {
+        if rest.is_empty() {
+            break;
+        }
+        let (notice, after) = rest.split_at(rest.len().min(NOTICE_BYTES));
+        lines.push(take_notice(day, store, place + 1, notice))?;
+        rest = after;
     }
     Ok(lines)
 }
