@@ -1,7 +1,9 @@
 -- What tests in their order come to in an outcome.
-use mathlib.Core.Bool.{Bool}
-use mathlib.Core.List.{List, [], _++_, append-nil}
-use mathlib.Core.Path.{_≡_, _∙_, ap, sym}
+use mathlib.Core.Bool.{Bool, true, false}
+use mathlib.Core.List.{List, [], _∷_, _++_, append-nil}
+use mathlib.Core.Path.{_≡_, _∙_, ap, refl, sym}
+use native.Mathlib.Omega.{arith}
+use Prim.Native.Nat.{ℕ}
 use Rattle.day.specs.Outcome.{Outcome, Grant, concluded}
 use Rattle.memory.specs.declared.types.Extent.{Extent}
 use Rattle.memory.specs.Held.{Held}
@@ -53,3 +55,10 @@ same-outcome o p answer extent parties points notices readings outside imbalance
 -- the first tests refuse
 pub refused-first : (e : Extent) (m : Held) (ts us : List (Bool × Fault)) (g : Grant) (f : Fault) → judged {A = Unit {0}} ts tt ≡ Err f → concluded e m (judged (ts ++ us) g) ≡ record { answer = Err f; extent = e; memory = m }
 refused-first e m ts us g f r = ap (concluded e m) (judged-fault ts us tt g f r)
+
+-- what a granted outcome tells: no test held, and the day and memory are the granted ones
+pub granted-back : (e : Extent) (m : Held) (ts : List (Bool × Fault)) (g : Grant) (o : Outcome) → concluded e m (judged ts g) ≡ o → o .answer ≡ Ok tt →
+    Passed ts × (o .extent ≡ g .extent) × (o .memory ≡ g .memory)
+granted-back e m [] g o is ok = (tt, ap (λ (p : Outcome). p .extent) (sym is), ap (λ (p : Outcome). p .memory) (sym is))
+granted-back e m ((true, f) ∷ ts) g o is ok = let z : Err f ≡ Ok tt = ap (λ (p : Outcome). p .answer) is ∙ ok in let y : _≡_ {A = ℕ} 0 1 = cc in absurd (omega arith)
+granted-back e m ((false, f) ∷ ts) g o is ok = let r = granted-back e m ts g o is ok in ((refl, r .0), r .1, r .2)
