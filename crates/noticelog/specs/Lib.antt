@@ -1,2 +1,2 @@
-pub mod Log
 pub mod Start
+pub mod Log

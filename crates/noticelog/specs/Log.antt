@@ -2,12 +2,14 @@
 use Prim.Native.Nat.{ℕ, zero, suc, _+_}
 use lib.ListN.{take, drop}
 use mathlib.Core.List.{List, [], _∷_}
+use mathlib.Core.Path.{_≡_}
 use Rattle.day.specs.Noticing.{noticing}
 use Rattle.day.specs.Outcome.{Outcome}
 use Rattle.memory.specs.declared.types.Extent.{Extent}
 use Rattle.memory.specs.Held.{Held}
 use Rattle.memory.specs.Pending.{count-pending}
 use Rattle.noticelog.specs.declared.line.Line.{Line}
+use Rattle.noticelog.specs.Start.{Started}
 use Rattle.refusal.specs.declared.fault.Fault.{Fault}
 use Rattle.refusal.specs.Meaning.{values-of}
 use Rattle.std.specs.declared.result.Result.{Result}
@@ -34,3 +36,7 @@ log-from place e m [] = []
 log-from place e m (bytes ∷ rest) =
     let o = noticing e m bytes in
     line-of place o ∷ log-from (place + 1) (o .extent) (o .memory) rest
+
+-- the log of the notices in the bytes, upon day 2 of 96 quarter-hours with parties 1 to 8 and no other record
+abbrev pub Logs : List ℕ → List Line → Type 0
+Logs bytes lines = (e : Extent) × (m : Held) × Started 2 96 8 e m × (lines ≡ log-from 1 e m (notices-in 64 bytes))

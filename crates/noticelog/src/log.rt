@@ -2,14 +2,16 @@
 ghost use mathlib.Core.Path.{_≡_};
 ghost use Rattle.day.specs.Days.{open-extent};
 ghost use Rattle.day.specs.Noticing.{noticing};
-ghost use Rattle.noticelog.specs.Log.{line-of, log-from, notices-in};
+ghost use Rattle.noticelog.specs.Log.{Logs, line-of, log-from, notices-in};
 ghost use Rattle.std.specs.Of.Vec.{vec-items};
 ghost use Rattle.std.specs.Vec.{made};
 ghost use Rattle.store.specs.Stored.{stored};
 use crate::line::Line;
+use crate::start::Start;
 use day::OpenDay;
 use std::alloc::AllocError;
 use std::alloc::Global;
+use std::error::AnyError;
 use store::Store;
 
 // A notice has fourteen bytes; a short rest counts as one.
@@ -37,8 +39,17 @@ fn take_notice(day: &mut OpenDay, store: &mut Store, place: usize, bytes: &[u8])
     }
 }
 
+// The log of the notices in the bytes, upon day 2 of 96 quarter-hours with parties 1 to 8.
+pub fn log_day(heap: Global, bytes: &[u8]) -> Result<Vec<Line>, AnyError>
+    ensures { λ r. ⌜ made r (λ lines. Logs (now (bytes .entry)) (vec-items lines)) ⌝ }
+{
+    let Start { mut day, mut store } = Start::new(heap)?;
+    let lines = log(heap, &mut day, &mut store, bytes)?;
+    Ok(lines)
+}
+
 // Takes the notices in the bytes one after the other.
-pub fn log(
+fn log(
     heap: Global,
     day: &mut OpenDay,
     store: &mut Store,

@@ -6,8 +6,7 @@ mod start;
 mod tests;
 
 use line::LineDisplay;
-use log::log;
-use start::Start;
+use log::log_day;
 use std::error::AnyError;
 use std::io::Read;
 
@@ -17,8 +16,7 @@ const MOST_BYTES: u64 = 64 * 14;
 fn run(rt: &LibcRuntime) -> Result<(), AnyError> {
     let mut bytes = Vec::new(rt.alloc());
     rt.stdin().take(MOST_BYTES).read_to_end(&mut bytes)?;
-    let Start { mut day, mut store } = Start::new(rt.alloc())?;
-    for line in log(rt.alloc(), &mut day, &mut store, bytes.as_slice())? {
+    for line in log_day(rt.alloc(), bytes.as_slice())? {
         println!(rt, "{line}")?;
     }
     Ok(())

@@ -27,7 +27,7 @@ pub struct Start {
 
 impl Start {
     // Day 2 of 96 quarter-hours with parties 1 to 8 and no notices.
-    pub fn new(heap: Global) -> Result<Start, AnyError>
+    pub(crate) fn new(heap: Global) -> Result<Start, AnyError>
         ensures { λ r. ⌜ made r (λ s. Started 2 96 8 (open-extent (s .day)) (stored (s .store))) ⌝ }
     {
         let Ok(mut day) = OpenDay::open(DAY, QUARTERS) else {

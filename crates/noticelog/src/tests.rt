@@ -2,10 +2,7 @@
 use crate::line::Line;
 use crate::line::LineDebug;
 use crate::line::LinePartialEq;
-use crate::log::log;
-use crate::start::Start;
-use std::alloc::Global;
-use std::error::AnyError;
+use crate::log::log_day;
 use std::test::*;
 
 const NOTICES: [u8; 42] = [
@@ -53,11 +50,6 @@ const NOTICES: [u8; 42] = [
     0x34, // another partner
 ];
 
-fn logged(heap: Global, bytes: &[u8]) -> Result<Vec<Line>, AnyError> {
-    let Start { mut day, mut store } = Start::new(heap)?;
-    Ok(log(heap, &mut day, &mut store, bytes)?)
-}
-
 fn line(place: usize, refusal: u8, pending: usize) -> Option<Line> {
     Some(Line {
         place,
@@ -68,7 +60,7 @@ fn line(place: usize, refusal: u8, pending: usize) -> Option<Line> {
 
 #[test]
 fn three_notices(rt: LibcRuntime) -> Result<(), Fail> {
-    let lines = logged(rt.alloc(), &NOTICES)?;
+    let lines = log_day(rt.alloc(), &NOTICES)?;
     check_eq(lines.len(), 3)?;
     check_eq(lines.get(0).copied(), line(1, 0, 1))?;
     check_eq(lines.get(1).copied(), line(2, 0, 0))?;
@@ -77,15 +69,15 @@ fn three_notices(rt: LibcRuntime) -> Result<(), Fail> {
 
 #[test]
 fn nothing_and_a_short_rest(rt: LibcRuntime) -> Result<(), Fail> {
-    check_eq(logged(rt.alloc(), &[])?.len(), 0)?;
-    let lines = logged(rt.alloc(), &NOTICES[0..17])?;
+    check_eq(log_day(rt.alloc(), &[])?.len(), 0)?;
+    let lines = log_day(rt.alloc(), &NOTICES[0..17])?;
     check_eq(lines.len(), 2)?;
     check_eq(lines.get(1).copied(), line(2, 1, 1))
 }
 
 #[test]
 fn what_follows_the_last(rt: LibcRuntime) -> Result<(), Fail> {
-    let lines = logged(rt.alloc(), &[0; 900])?;
+    let lines = log_day(rt.alloc(), &[0; 900])?;
     check_eq(lines.len(), 64)?;
     check_eq(lines.get(63).copied(), line(64, 3, 0))
 }
