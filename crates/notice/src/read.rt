@@ -3,7 +3,7 @@ ghost use mathlib.Core.Path.{_≡_};
 ghost use Rattle.notice.specs.Form.{fields-from, layout, stated};
 ghost use Rattle.notice.specs.Lawful.{Lawful};
 ghost use Rattle.notice.specs.Packing.{split};
-ghost use Rattle.notice.specs.Promises.{One-form};
+ghost use Rattle.notice.specs.Promises.{Guarded, One-form};
 ghost use Rattle.notice.specs.Reading.{byte-faults, held-fields, reading, reading-fields};
 ghost use Rattle.refusal.specs.Judging.{judged};
 ghost use Rattle.std.specs.Vec.{made};
@@ -62,6 +62,7 @@ impl Notice {
         ensures answer { λ r. ⌜ r ≡ reading quarters (now (bytes .entry)) ⌝ }
         ensures lawful { λ r. ⌜ made r (λ n. Lawful quarters (stated n)) ⌝ }
         ensures single { λ r. ⌜ made r (One-form (now (bytes .entry))) ⌝ }
+        ensures guarded { λ r. ⌜ made r (λ _. Guarded (now (bytes .entry))) ⌝ }
     {
         let fields = parse(bytes)?;
         fields.notice(quarters)
