@@ -26,6 +26,9 @@ use register::Register;
 use units::Kwh;
 use units::Mills;
 
+// What no record is numbered.
+const NO_NUMBER: u16 = 0;
+
 const NO_OUTSIDE: Outside = Outside {
     exchange: Kwh(0),
     correction: Kwh(0),
@@ -37,7 +40,7 @@ impl OpenDay {
         ensures outcome { λ r. ⌜ entering-party (open-extent (now (self .entry))) (held (memory .entry)) number ≡ record { answer = r; extent = open-extent (now (self .exit)); memory = left (memory .exit) } ⌝ }
         ensures kept { λ r. ⌜ made r (λ _. Sized (open-extent (now (self .exit))) (left (memory .exit)) × InOrder (open-extent (now (self .exit))) (left (memory .exit))) ⌝ }
     {
-        if number == 0 {
+        if number == NO_NUMBER {
             return Err(Fault::Number);
         }
         ready(&self.extent, &memory)?;

@@ -14,6 +14,9 @@ use register::Numbered;
 // A mark for each number that there can be.
 pub(crate) const NUMBERS: usize = 65_536;
 
+// What no record is numbered.
+const NO_NUMBER: usize = 0;
+
 // Marks the numbers of the first `used` records in a blank table, unless one is 0 or comes again.
 pub(crate) fn marks<R: Numbered>(records: &[R], used: usize, table: &mut [bool; NUMBERS]) -> bool
     requires { ⌜ used ≤ length (now records) ⌝ ∗ ⌜ Blank (now table) ⌝ }
@@ -22,7 +25,7 @@ pub(crate) fn marks<R: Numbered>(records: &[R], used: usize, table: &mut [bool; 
 {
     for i in 0..used {
         let number = records[i].number() as usize;
-        if number == 0 || table[number] {
+        if number == NO_NUMBER || table[number] {
             return false;
         }
         table[number] = true;

@@ -21,7 +21,7 @@ returns-in-Break-append-party c =
     let n = c .args .number in
     let a = c .in-Break-append-party .ensures tt in
     let front = passed tt _ (memory-faults e m) (sym (c .ready .ensures .answer) ∙ c .in-Continue-ready .was tt) in
-    let refusal = refused-later e m ((eqb n 0, Number) ∷ memory-faults e m) (party-faults (e .parties) (m .parties) n) (party-entered e m n) _ (ne-eqb n 0 (c .if-number-eq0 .left), front) (sym (a .answer)) in
+    let refusal = refused-later e m ((eqb n 0, Number) ∷ memory-faults e m) (party-faults (e .parties) (m .parties) n) (party-entered e m n) _ (ne-eqb n 0 (c .if-number-eq-NO-NUMBER .left), front) (sym (a .answer)) in
     rw (p .1, p .2)
     (record {
       outcome = refusal ∙ same-outcome _ _ refl (sym (a .extent)) (sym (a .parties)) refl refl refl (sym (a .outside)) refl (sym (a .amounts)) (sym (a .billed)) refl;
@@ -36,7 +36,7 @@ returns c =
     let a = c .in-Continue-append-party .ensures tt in
     let front = passed tt _ (memory-faults e m) (sym (c .ready .ensures .answer) ∙ c .in-Continue-ready .was tt) in
     let back = passed tt _ (party-faults (e .parties) (m .parties) n) (sym (c .append-party .ensures .answer) ∙ c .in-Continue-append-party .was tt) in
-    let named = c .if-number-eq0 .left in
+    let named = c .if-number-eq-NO-NUMBER .left in
     let grant = granted e m (entering-faults e m n) (party-entered e m n) (ne-eqb n 0 named, passed-both (memory-faults e m) (party-faults (e .parties) (m .parties) n) front back) in
     let ready = c .in-Continue-ready .ensures tt .meaning in
     let left-is = same-outcome _ _ refl (sym (a .extent)) (sym (a .parties)) refl refl refl (sym (a .outside)) refl (sym (a .amounts)) (sym (a .billed)) refl in
