@@ -22,12 +22,14 @@ const MILLION: i64 = 1_000_000;
 
 const MOST: i64 = 2_000_000_000_000_000_000;
 
-// Two parties, an access point and a delivery point behind it, and a notice between the parties: every figure at a limit.
+// Two parties, an access point and a delivery point behind it, and two notices between the parties, alike but for their numbers:
+// every figure is at a limit.
 #[derive(Clone, Copy)]
 struct Sample {
     parties: [Party; 2],
     points: [Point; 2],
     notice: NoticeRecord,
+    second: u16,
     reading: Option<Reading>,
     outside: Outside,
     amount: Mills,
@@ -62,6 +64,7 @@ const SAMPLE: Sample = Sample {
         },
         stage: Stage::Withdrawn,
     },
+    second: 8,
     reading: Some(Reading {
         injection: Kwh(0),
         offtake: Kwh(MILLION),
@@ -80,18 +83,20 @@ fn answer_sized(sample: Sample, bills: usize, used: usize) -> Result<(), Fault> 
         day: DeliveryDay::check(2, 96)?,
         parties: used,
         points: 2,
-        notices: 1,
+        notices: 2,
     };
     let Sample {
         mut parties,
         mut points,
         notice,
+        second,
         reading,
         outside,
         amount,
         billed,
     } = sample;
-    let mut notices = [notice];
+    let mut notices = [notice; 2];
+    notices[1].trade.number = second;
     let mut readings = [reading; 200];
     let mut outside = [outside; 200];
     let mut imbalances = [Kwh(i64::MAX); 200];
@@ -184,6 +189,20 @@ fn notices() -> Result<(), Fail> {
     let refused = Err(Fault::Order);
     let trade = SAMPLE.notice.trade;
     check_eq(with_trade(trade), Ok(()))?;
+    check_eq(
+        answer(Sample {
+            second: 7,
+            ..SAMPLE
+        }),
+        refused,
+    )?;
+    check_eq(
+        answer(Sample {
+            second: 0,
+            ..SAMPLE
+        }),
+        refused,
+    )?;
     check_eq(with_trade(Trade { number: 0, ..trade }), refused)?;
     check_eq(with_trade(Trade { sender: 2, ..trade }), refused)?;
     check_eq(
@@ -253,7 +272,10 @@ fn figures() -> Result<(), Fail> {
     check_eq(with_reading(0, MILLION + 1), refused)?;
     check_eq(with_reading(-1, 0), refused)?;
     check_eq(with_reading(0, -1), refused)?;
+    check_eq(with_outside(MILLION, -MILLION), Ok(()))?;
     check_eq(with_outside(-MILLION - 1, 0), refused)?;
+    check_eq(with_outside(MILLION + 1, 0), refused)?;
+    check_eq(with_outside(0, -MILLION - 1), refused)?;
     check_eq(with_outside(0, MILLION + 1), refused)?;
     check_eq(
         answer(Sample {

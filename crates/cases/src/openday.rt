@@ -74,6 +74,30 @@ fn parties(rt: LibcRuntime) -> Result<(), Fail> {
     check_eq(large.enter_party(&mut setup.day, 3), Err(Fault::Sizes))
 }
 
+// The answer to the entry of a party upon a new day, with so many places.
+fn entry(
+    heap: Global,
+    parties: u16,
+    points: u16,
+    notices: u16,
+) -> Result<Option<Fault>, AllocError> {
+    let Ok(mut day) = OpenDay::open(2, 96) else {
+        return Err(AllocError);
+    };
+    let mut store = Store::new(heap, parties, points, notices)?;
+    Ok(store.enter_party(&mut day, 1).err())
+}
+
+#[test]
+fn places(rt: LibcRuntime) -> Result<(), Fail> {
+    let heap = rt.alloc();
+    check_eq(entry(heap, 64, 256, 512)?, None)?;
+    check_eq(entry(heap, 65, 256, 512)?, Some(Fault::Sizes))?;
+    check_eq(entry(heap, 64, 257, 512)?, Some(Fault::Sizes))?;
+    check_eq(entry(heap, 64, 256, 513)?, Some(Fault::Sizes))?;
+    check_eq(entry(heap, 0, 0, 0)?, Some(Fault::RegisterFull))
+}
+
 #[test]
 fn confirmed_once(rt: LibcRuntime) -> Result<(), Fail> {
     let mut setup = Setup::open(rt.alloc(), 2)?;
