@@ -1,4 +1,6 @@
 // Examples of every call and of its limits on both sides, run as tests.
+#![tactic(auto)]
+
 #[cfg(test)]
 mod days;
 #[cfg(test)]

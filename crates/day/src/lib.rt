@@ -1,4 +1,6 @@
 // A delivery day and the calls upon it. The owner brings the memory at each call that needs it.
+#![tactic(auto)]
+
 mod open;
 mod party;
 mod rows;

@@ -1,4 +1,6 @@
 // The memory of a day: its records and figures, and whether it has its sizes and is in order.
+#![tactic(auto)]
+
 mod bounded;
 mod marks;
 mod numbered;

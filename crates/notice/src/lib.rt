@@ -1,4 +1,6 @@
 // Notices of energy trades: fourteen bytes, the ten fields packed in them, and what they mean.
+#![tactic(auto)]
+
 mod bits;
 mod mirror;
 mod read;

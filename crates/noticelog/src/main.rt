@@ -1,4 +1,6 @@
 // Reads the notices of one day from standard input, and prints for each its place, its refusal and how many notices then wait.
+#![tactic(auto)]
+
 mod line;
 mod log;
 mod start;

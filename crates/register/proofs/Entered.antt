@@ -1,5 +1,5 @@
 -- A register whose places hold all its records.
-use Rattle.std.proofs.Common.{◌≡◌, ℕ, ◌≤◌, min, Bool, leb, List, [], ◌∷◌, length, sym, ap, ◌∙◌, arith}
+use Rattle.std.proofs.Common.{◌≡◌, ℕ, ◌≤◌, Bool, leb, List, [], ◌∷◌, length, sym, ap, ◌∙◌, arith}
 use Rattle.refusal.specs.declared.fault.Fault.TheVariants.{NumberUsed, RegisterFull}
 use Rattle.register.specs.Entering.{numbers, in_use, entry_faults}
 use Rattle.register.specs.Numbers.{knows}

@@ -1,5 +1,5 @@
 -- What the tests over a register's numbers say.
-use Rattle.std.proofs.Common.{◌≡◌, ℕ, ◌+◌, ◌<◌, Bool, true, false, not, ◌&&◌, eqb, ◌≢◌, List, length, get_or, Decides, sym, refl, ap, ◌∙◌, ⊎_elim, arith, below_more}
+use Rattle.std.proofs.Common.{◌≡◌, ℕ, ◌+◌, ◌<◌, Bool, not, ◌&&◌, eqb, ◌≢◌, List, length, get_or, Decides, sym, refl, ap, ◌∙◌, ⊎_elim, arith, below_more}
 use Rattle.register.specs.Numbers.{Entered, Unborne, Distinct, every, knows, distinct}
 use Rattle.std.proofs.lemmas.List.{get_or_read}
 use Rattle.std.proofs.lemmas.Bool.{cases_order}

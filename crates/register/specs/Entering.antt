@@ -1,5 +1,5 @@
 -- What a register answers, and what it then holds.
-use Rattle.std.specs.Prelude.{ℕ, ◌+◌, min, Bool, cond, List, [], ◌∷◌, length, nat_le, slice_index_or}
+use Rattle.std.specs.Prelude.{ℕ, min, Bool, List, [], ◌∷◌, length, nat_le, slice_index_or}
 use Rattle.refusal.specs.declared.fault.Fault.{Fault}
 use Rattle.refusal.specs.declared.fault.Fault.TheVariants.{NumberUsed, RegisterFull}
 use Rattle.register.specs.Numbers.{knows}

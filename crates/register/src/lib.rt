@@ -1,4 +1,6 @@
 // One register for every kind of record that bears a number, over places that the owner lends.
+#![tactic(auto)]
+
 mod numbered;
 mod register;
 

@@ -17,15 +17,15 @@ pub struct Register<'a, R> {
 impl<'a, R: Numbered + Copy> Register<'a, R> {
     // The place of the first record that bears the number.
     pub fn find(&self, number: u16) -> Option<usize>
-        ensures place { result ≡ place_of (in_use numeral unset self.now.used self.now.places.now) (numbers numeral unset self.now.places.now) number }
-        ensures first { MatchOption result (Unborne number (numbers numeral unset self.now.places.now) (in_use numeral unset self.now.used self.now.places.now)) (λ i. FirstAt number (numbers numeral unset self.now.places.now) (in_use numeral unset self.now.used self.now.places.now) i) }
+        ensures place { result ≡ place_of (in_use R.numeral R.unset self.now.used self.now.places.now) (numbers R.numeral R.unset self.now.places.now) number }
+        ensures first { MatchOption result (Unborne number (numbers R.numeral R.unset self.now.places.now) (in_use R.numeral R.unset self.now.used self.now.places.now)) (λ i. FirstAt number (numbers R.numeral R.unset self.now.places.now) (in_use R.numeral R.unset self.now.used self.now.places.now) i) }
     {
         find_place(self.places, self.used, number)
     }
 
     // Whether a number is used.
     pub fn knows(&self, number: u16) -> bool
-        ensures { result ≡ knows (in_use numeral unset self.now.used self.now.places.now) (numbers numeral unset self.now.places.now) number }
+        ensures { result ≡ knows (in_use R.numeral R.unset self.now.used self.now.places.now) (numbers R.numeral R.unset self.now.places.now) number }
     {
         self.find(number).is_some()
     }
@@ -33,9 +33,9 @@ impl<'a, R: Numbered + Copy> Register<'a, R> {
     // Enters a record in the place after the last, unless its number is used or there is none.
     pub fn enter(&mut self, entry: R) -> Result<(), Fault>
         ensures named { self.new.places.ghost_name ≡ self.old.places.ghost_name }
-        ensures answer { result ≡ judged (entry_faults numeral unset self.old.used self.old.places.now entry) tt }
+        ensures answer { result ≡ judged (entry_faults R.numeral R.unset self.old.used self.old.places.now entry) tt }
         ensures places { self.new.places.now ≡ (if is_ok result then slice_set self.old.places.now self.old.used entry else self.old.places.now) }
-        ensures used { self.new.used ≡ cond (is_ok result) (self.old.used + 1) self.old.used }
+        ensures used { self.new.used ≡ (if is_ok result then self.old.used + 1 else self.old.used) }
     {
         if self.knows(entry.number()) {
             return Err(Fault::NumberUsed);
@@ -51,7 +51,7 @@ impl<'a, R: Numbered + Copy> Register<'a, R> {
     // Writes a record over the one in a place, and answers whether there was one.
     pub fn rewrite(&mut self, place: usize, entry: R) -> bool
         ensures named { self.new.places.ghost_name ≡ self.old.places.ghost_name }
-        ensures answer { result ≡ nat_lt place (in_use numeral unset self.old.used self.old.places.now) }
+        ensures answer { result ≡ nat_lt place (in_use R.numeral R.unset self.old.used self.old.places.now) }
         ensures places { self.new.places.now ≡ (if result then slice_set self.old.places.now place entry else self.old.places.now) }
         ensures used { self.new.used ≡ self.old.used }
     {
@@ -65,15 +65,15 @@ impl<'a, R: Numbered + Copy> Register<'a, R> {
 
 // The same search over a slice.
 pub fn find_place<R: Numbered>(places: &[R], used: usize, number: u16) -> Option<usize>
-    ensures place { result ≡ place_of (in_use numeral unset used places.now) (numbers numeral unset places.now) number }
-    ensures first { MatchOption result (Unborne number (numbers numeral unset places.now) (in_use numeral unset used places.now)) (λ i. FirstAt number (numbers numeral unset places.now) (in_use numeral unset used places.now) i) }
+    ensures place { result ≡ place_of (in_use R.numeral R.unset used places.now) (numbers R.numeral R.unset places.now) number }
+    ensures first { MatchOption result (Unborne number (numbers R.numeral R.unset places.now) (in_use R.numeral R.unset used places.now)) (λ i. FirstAt number (numbers R.numeral R.unset places.now) (in_use R.numeral R.unset used places.now) i) }
 {
     first_place(places, used.min(places.len()), number)
 }
 
 fn first_place<R: Numbered>(places: &[R], used: usize, number: u16) -> Option<usize>
     requires { used ≤ length places.now }
-    ensures { MatchOption result (Unborne number (numbers numeral unset places.now) used) (λ i. FirstAt number (numbers numeral unset places.now) used i) }
+    ensures { MatchOption result (Unborne number (numbers R.numeral R.unset places.now) used) (λ i. FirstAt number (numbers R.numeral R.unset places.now) used i) }
 {
     for i in 0..used {
         if places[i].number() == number {

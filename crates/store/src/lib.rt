@@ -1,4 +1,6 @@
 // An owner of a day's memory, which lends it at each call.
+#![tactic(auto)]
+
 mod owned;
 mod types;
 

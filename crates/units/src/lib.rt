@@ -1,5 +1,6 @@
 // The units of the settlement. A price is never taken for an amount, nor an energy for either:
 // each is a type of its own, and adding or comparing two of them does not compile.
+#![tactic(auto)]
 
 // An energy in kilowatt-hours; where it has a direction, positive is towards the party.
 #[derive(Clone, Copy, PartialEq, Eq, PartialOrd, Ord, Debug)]

@@ -1,4 +1,6 @@
 // The worked figures of the rule book, each proved of the definitions by computation.
+#![tactic(auto)]
+
 mod figures;
 mod types;
 

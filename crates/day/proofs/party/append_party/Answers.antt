@@ -6,10 +6,10 @@ use Rattle.refusal.specs.Judging.{judged}
 use Rattle.register.proofs.Entered.{its_entry_faults}
 use Rattle.std.proofs.lemmas.Result.{err_from_is_err_and}
 
-pub returns-in-err-enter : goal.returns-in-err-enter
-returns-in-err-enter c =
-    let p = err_from_is_err_and c.from-residual.result c.from-residual.ensures.1 in
-    let n = c.in-err-enter.ensures in
+pub returns-in_err-enter : goal.returns-in_err-enter
+returns-in_err-enter c =
+    let p = err_from_is_err_and c.from_residual.result c.from_residual.ensures.1 in
+    let n = c.in_err-enter.ensures in
     let same = its_entry_faults (λ (x : Party). x.number) no_party c.args.extent.now.parties c.args.parties.now c.requires.places (record { number = c.args.number }) in
     rw (p.1, p.2)
     (record {

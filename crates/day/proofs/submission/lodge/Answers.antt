@@ -7,9 +7,9 @@ use Rattle.refusal.specs.Judging.{judged}
 use Rattle.register.proofs.Entered.{its_entry_faults}
 use Rattle.std.proofs.lemmas.Result.{err_from_is_err_and}
 
-pub returns-in-err-enter : goal.returns-in-err-enter
-returns-in-err-enter c =
-    let p = err_from_is_err_and c.from-residual.result c.from-residual.ensures.1 in
-    let n = c.in-err-enter.ensures in
+pub returns-in_err-enter : goal.returns-in_err-enter
+returns-in_err-enter c =
+    let p = err_from_is_err_and c.from_residual.result c.from_residual.ensures.1 in
+    let n = c.in_err-enter.ensures in
     let same = its_entry_faults (λ (x : NoticeRecord). x.trade.number) no_notice c.args.used c.args.notices.now c.requires (record { trade = c.args.trade; stage = Pending }) in
     rw (p.1, p.2) (record { answer = n.answer ∙ ap (λ ts. judged ts tt) same; notices = search rules })

@@ -13,5 +13,5 @@ returns c =
     let used = c.args.used in
     let n = c.args.number in
     let number = λ (x : Party). x.number in
-    c.is-some.ensures ∙ ap is_some c.find-place.ensures.place ∙ known_place (in_use number no_party used ps) (party_numbers ps) n ∙
+    c.is_some.ensures ∙ ap is_some c.find_place.ensures.place ∙ known_place (in_use number no_party used ps) (party_numbers ps) n ∙
     ap (λ u. knows u (party_numbers ps) n) (all_in_use number no_party used ps c.requires)

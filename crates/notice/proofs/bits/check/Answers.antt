@@ -8,11 +8,11 @@ use Rattle.notice.proofs.bits.check.Goals as goal
 term : (p b : ℕ) → p ≤ 12 → b < 256 → p * b ≤ 3060
 term p b h k = mul-le p b 12 255 h (omega arith)
 
-pub overflow-mul-sum : goal.overflow-mul-sum
-overflow-mul-sum c = record { fits = omega (arith, term c.loop-b.place (get_or c.args.bytes.now c.loop-b.b-index 0) (omega arith) (omega arith)) }
+pub overflow_mul-sum : goal.overflow_mul-sum
+overflow_mul-sum c = record { fits = omega (arith, term c.loop-b.place (get_or c.args.bytes.now c.loop-b.b-index 0) (omega arith) (omega arith)) }
 
-pub overflow-add-sum : goal.overflow-add-sum
-overflow-add-sum c = record { fits = omega (arith, term c.loop-b.place (get_or c.args.bytes.now c.loop-b.b-index 0) (omega arith) (omega arith)) }
+pub overflow_add-sum : goal.overflow_add-sum
+overflow_add-sum c = record { fits = omega (arith, term c.loop-b.place (get_or c.args.bytes.now c.loop-b.b-index 0) (omega arith) (omega arith)) }
 
 pub loop-b-preserved : goal.loop-b-preserved
 loop-b-preserved c =

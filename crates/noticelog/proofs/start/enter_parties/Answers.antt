@@ -9,4 +9,4 @@ loop-place-init c = numbered_none (open_extent c.args.day.now) (stored c.args.st
 
 pub loop-place-preserved : goal.loop-place-preserved
 loop-place-preserved c =
-    numbered_more (open_extent c.args.day.now) (open_extent c.loop-place.day) _ (stored c.loop-place.store) _ c.loop-place.place c.loop-place.invariant c.in-ok-enter-party.ensures
+    numbered_more (open_extent c.args.day.now) (open_extent c.loop-place.day) _ (stored c.loop-place.store) _ c.loop-place.place c.loop-place.invariant c.in_ok-enter_party.ensures

@@ -20,24 +20,24 @@ returns-then-number-eq-NO-NUMBER c =
     let out = refused_first e m ((eqb n 0, Number) ∷ []) (memory_faults e m ++ party_faults e.parties m.parties n) (party_entered e m n) Number (cond-true (eqb n 0) _ _ (eq-eqb n 0 c.if-number-eq-NO-NUMBER.true)) in
     record { outcome = out; kept = tt; admits = admits_as e m n _ (ap (λ (o : Outcome). o.answer) out) }
 
-pub returns-in-err-ready : goal.returns-in-err-ready
-returns-in-err-ready c =
-    let p = err_from_is_err_and c.from-residual.result c.from-residual.ensures.1 in
+pub returns-in_err-ready : goal.returns-in_err-ready
+returns-in_err-ready c =
+    let p = err_from_is_err_and c.from_residual.result c.from_residual.ensures.1 in
     let e = c.args.self.now.extent in
     let m = held c.args.memory in
     let n = c.args.number in
-    let fault = cond-false (eqb n 0) _ _ (ne_eqb n 0 c.if-number-eq-NO-NUMBER.false) ∙ sym c.in-err-ready.ensures.answer in
+    let fault = cond-false (eqb n 0) _ _ (ne_eqb n 0 c.if-number-eq-NO-NUMBER.false) ∙ sym c.in_err-ready.ensures.answer in
     let out = refused_first e m ((eqb n 0, Number) ∷ memory_faults e m) (party_faults e.parties m.parties n) (party_entered e m n) _ fault in
     rw (p.1, p.2) (record { outcome = out; kept = tt; admits = admits_as e m n _ (ap (λ (o : Outcome). o.answer) out) })
 
-pub returns-in-err-append-party : goal.returns-in-err-append-party
-returns-in-err-append-party c =
-    let p = err_from_is_err_and c.from-residual-in-err-append-party.result c.from-residual-in-err-append-party.ensures.1 in
+pub returns-in_err-append_party : goal.returns-in_err-append_party
+returns-in_err-append_party c =
+    let p = err_from_is_err_and c.from_residual-in_err-append_party.result c.from_residual-in_err-append_party.ensures.1 in
     let e = c.args.self.now.extent in
     let m = held c.args.memory in
     let n = c.args.number in
-    let a = c.in-err-append-party.ensures in
-    let front = passed tt _ (memory_faults e m) (sym c.ready.ensures.answer ∙ c.in-ok-ready.was) in
+    let a = c.in_err-append_party.ensures in
+    let front = passed tt _ (memory_faults e m) (sym c.ready.ensures.answer ∙ c.in_ok-ready.was) in
     let refusal = refused_later e m ((eqb n 0, Number) ∷ memory_faults e m) (party_faults e.parties m.parties n) (party_entered e m n) _ (ne_eqb n 0 c.if-number-eq-NO-NUMBER.false, front) (sym a.answer) in
     let out = refusal ∙ same_outcome _ _ refl (sym a.extent) (sym a.parties) refl refl refl (sym a.outside) refl (sym a.amounts) (sym a.billed) refl in
     rw (p.1, p.2) (record { outcome = out; kept = tt; admits = admits_as e m n _ (ap (λ (o : Outcome). o.answer) out) })
@@ -47,12 +47,12 @@ returns c =
     let e = c.args.self.now.extent in
     let m = held c.args.memory in
     let n = c.args.number in
-    let a = c.in-ok-append-party.ensures in
-    let front = passed tt _ (memory_faults e m) (sym c.ready.ensures.answer ∙ c.in-ok-ready.was) in
-    let back = passed tt _ (party_faults e.parties m.parties n) (sym c.append-party.ensures.answer ∙ c.in-ok-append-party.was) in
+    let a = c.in_ok-append_party.ensures in
+    let front = passed tt _ (memory_faults e m) (sym c.ready.ensures.answer ∙ c.in_ok-ready.was) in
+    let back = passed tt _ (party_faults e.parties m.parties n) (sym c.append_party.ensures.answer ∙ c.in_ok-append_party.was) in
     let named = c.if-number-eq-NO-NUMBER.false in
     let grant = granted e m (entering_faults e m n) (party_entered e m n) (ne_eqb n 0 named, passed_both (memory_faults e m) (party_faults e.parties m.parties n) front back) in
-    let ready = c.in-ok-ready.ensures.meaning in
+    let ready = c.in_ok-ready.ensures.meaning in
     let left_is = same_outcome _ _ refl (sym a.extent) (sym a.parties) refl refl refl (sym a.outside) refl (sym a.amounts) (sym a.billed) refl in
     let out = grant ∙ left_is in
     record {

@@ -13,37 +13,37 @@ use Rattle.refusal.specs.declared.fault.Fault.TheVariants.{UnknownParty}
 use Rattle.refusal.specs.Judging.{judged}
 use Rattle.std.proofs.lemmas.Result.{err_from_is_err_and}
 
-pub returns-in-err-notice : goal.returns-in-err-notice
-returns-in-err-notice c =
-    let p = err_from_is_err_and c.from-residual.result c.from-residual.ensures.1 in
+pub returns-in_err-notice : goal.returns-in_err-notice
+returns-in_err-notice c =
+    let p = err_from_is_err_and c.from_residual.result c.from_residual.ensures.1 in
     let e = c.args.self.now.extent in
     let m = held c.args.memory in
-    let out = ap (λ r. concluded e m (after_reading e m r)) (sym c.in-err-notice.ensures.answer) in
+    let out = ap (λ r. concluded e m (after_reading e m r)) (sym c.in_err-notice.ensures.answer) in
     rw (p.1, p.2) (record { outcome = out; kept = tt; answers = answers_as e m c.args.bytes.now _ (ap (λ (o : Outcome). o.answer) out); lodges = lodges_as e m c.args.bytes.now _ (ap (λ (o : Outcome). o.answer) out) })
 
-pub returns-in-err-ready : goal.returns-in-err-ready
-returns-in-err-ready c =
-    let p = err_from_is_err_and c.from-residual-in-err-ready.result c.from-residual-in-err-ready.ensures.1 in
+pub returns-in_err-ready : goal.returns-in_err-ready
+returns-in_err-ready c =
+    let p = err_from_is_err_and c.from_residual-in_err-ready.result c.from_residual-in_err-ready.ensures.1 in
     let e = c.args.self.now.extent in
     let m = held c.args.memory in
-    let n = c.in-ok-notice.notice in
+    let n = c.in_ok-notice.notice in
     let tests = (party_unknown e.parties m.parties (stated n), UnknownParty) ∷ kind_faults e.notices m.notices n in
     let out =
-    ap (λ r. concluded e m (after_reading e m r)) (sym c.read.ensures.answer ∙ c.in-ok-notice.was) ∙
-    refused_first e m (memory_faults e m) tests (noticed e m n) _ (sym c.in-err-ready.ensures.answer) in
+    ap (λ r. concluded e m (after_reading e m r)) (sym c.read.ensures.answer ∙ c.in_ok-notice.was) ∙
+    refused_first e m (memory_faults e m) tests (noticed e m n) _ (sym c.in_err-ready.ensures.answer) in
     rw (p.1, p.2) (record { outcome = out; kept = tt; answers = answers_as e m c.args.bytes.now _ (ap (λ (o : Outcome). o.answer) out); lodges = lodges_as e m c.args.bytes.now _ (ap (λ (o : Outcome). o.answer) out) })
 
-pub returns-in-err-record-notice : goal.returns-in-err-record-notice
-returns-in-err-record-notice c =
-    let p = err_from_is_err_and c.from-residual-in-err-record-notice.result c.from-residual-in-err-record-notice.ensures.1 in
+pub returns-in_err-record_notice : goal.returns-in_err-record_notice
+returns-in_err-record_notice c =
+    let p = err_from_is_err_and c.from_residual-in_err-record_notice.result c.from_residual-in_err-record_notice.ensures.1 in
     let e = c.args.self.now.extent in
     let m = held c.args.memory in
-    let n = c.in-ok-notice.notice in
-    let a = c.in-err-record-notice.ensures in
-    let front = passed tt _ (memory_faults e m) (sym c.ready.ensures.answer ∙ c.in-ok-ready.was) in
+    let n = c.in_ok-notice.notice in
+    let a = c.in_err-record_notice.ensures in
+    let front = passed tt _ (memory_faults e m) (sym c.ready.ensures.answer ∙ c.in_ok-ready.was) in
     let tests = (party_unknown e.parties m.parties (stated n), UnknownParty) ∷ kind_faults e.notices m.notices n in
     let out =
-    ap (λ r. concluded e m (after_reading e m r)) (sym c.read.ensures.answer ∙ c.in-ok-notice.was) ∙
+    ap (λ r. concluded e m (after_reading e m r)) (sym c.read.ensures.answer ∙ c.in_ok-notice.was) ∙
     refused_later e m (memory_faults e m) tests (noticed e m n) _ front (sym a.answer) ∙
     same_outcome _ _ refl (sym a.extent) refl refl (sym a.notices) refl refl refl refl refl refl in
     rw (p.1, p.2) (record { outcome = out; kept = tt; answers = answers_as e m c.args.bytes.now _ (ap (λ (o : Outcome). o.answer) out); lodges = lodges_as e m c.args.bytes.now _ (ap (λ (o : Outcome). o.answer) out) })
@@ -52,19 +52,19 @@ pub returns : goal.returns
 returns c =
     let e = c.args.self.now.extent in
     let m = held c.args.memory in
-    let n = c.in-ok-notice.notice in
-    let a = c.in-ok-record-notice.ensures in
-    let front = passed tt _ (memory_faults e m) (sym c.ready.ensures.answer ∙ c.in-ok-ready.was) in
+    let n = c.in_ok-notice.notice in
+    let a = c.in_ok-record_notice.ensures in
+    let front = passed tt _ (memory_faults e m) (sym c.ready.ensures.answer ∙ c.in_ok-ready.was) in
     let tests = (party_unknown e.parties m.parties (stated n), UnknownParty) ∷ kind_faults e.notices m.notices n in
-    let back = passed tt _ tests (sym c.record-notice.ensures.answer ∙ c.in-ok-record-notice.was) in
-    let ready = c.in-ok-ready.ensures.meaning in
+    let back = passed tt _ tests (sym c.record_notice.ensures.answer ∙ c.in_ok-record_notice.was) in
+    let ready = c.in_ok-ready.ensures.meaning in
     let left_is = same_outcome _ _ refl (sym a.extent) refl refl (sym a.notices) refl refl refl refl refl refl in
     let out =
-    ap (λ r. concluded e m (after_reading e m r)) (sym c.read.ensures.answer ∙ c.in-ok-notice.was) ∙
+    ap (λ r. concluded e m (after_reading e m r)) (sym c.read.ensures.answer ∙ c.in_ok-notice.was) ∙
     granted e m (state_faults e m n) (noticed e m n) (passed_both (memory_faults e m) tests front back) ∙ left_is in
     record {
       outcome = out;
-      kept = subst (λ (o : Outcome). Kept o.extent o.memory) left_is (notice_kept e m ready.0 ready.1 n c.in-ok-notice.ensures.lawful back.0 back.1);
+      kept = subst (λ (o : Outcome). Kept o.extent o.memory) left_is (notice_kept e m ready.0 ready.1 n c.in_ok-notice.ensures.lawful back.0 back.1);
       answers = answers_as e m c.args.bytes.now _ (ap (λ (o : Outcome). o.answer) out);
       lodges = lodges_as e m c.args.bytes.now _ (ap (λ (o : Outcome). o.answer) out);
     }

@@ -26,12 +26,12 @@ guarded_from : (q : ℕ) (bs : List ℕ) → All Byte bs → (r : Result Notice 
 guarded_from q bs h (Ok n) e = subst Guarded (form_of q bs n h (sym e)) (guarded (fields_of n))
 guarded_from q bs h (Err f) e = tt
 
-pub returns-in-err-fields : goal.returns-in-err-fields
-returns-in-err-fields c =
-    let p = err_from_is_err_and c.from-residual.result c.from-residual.ensures.1 in
+pub returns-in_err-fields : goal.returns-in_err-fields
+returns-in_err-fields c =
+    let p = err_from_is_err_and c.from_residual.result c.from_residual.ensures.1 in
     let bs = c.args.bytes.now in
     let f = held_fields bs in
-    let e = sym (judged_fault (byte_faults bs) (faults c.args.quarters f) f (notice_of f) _ (sym c.in-err-fields.ensures)) in
+    let e = sym (judged_fault (byte_faults bs) (faults c.args.quarters f) f (notice_of f) _ (sym c.in_err-fields.ensures)) in
     rw (p.1, p.2) (record { answer = e; lawful = tt; single = tt; guarded = tt })
 
 pub returns : goal.returns
@@ -39,8 +39,8 @@ returns c =
     let bs = c.args.bytes.now in
     let q = c.args.quarters in
     let f = held_fields bs in
-    let e = sym c.parse.ensures ∙ c.in-ok-fields.was in
-    let same = passed_value f c.in-ok-fields.fields (byte_faults bs) e in
+    let e = sym c.parse.ensures ∙ c.in_ok-fields.was in
+    let same = passed_value f c.in_ok-fields.fields (byte_faults bs) e in
     let answer : c.notice.result ≡ reading q bs =
     c.notice.ensures.answer ∙ ap (λ x. judged (faults q x) (notice_of x)) (sym same) ∙ sym (judged_then (byte_faults bs) (faults q f) f _ (notice_of f) e) in
     let bytes = all_bytes bs c.type-inv.bytes in

@@ -17,5 +17,5 @@ pub returns : goal.returns
 returns c =
     let q = c.args.quarters in
     let t = c.args.self in
-    let d : Decides c.is-ok.result (Lawful q t) = decides_passed q t c.limits.result c.is-ok.result c.limits.ensures.answer c.limits.ensures.lawful c.is-ok.ensures.value in
+    let d : Decides c.is_ok.result (Lawful q t) = decides_passed q t c.limits.result c.is_ok.result c.limits.ensures.answer c.limits.ensures.lawful c.is_ok.ensures.value in
     record { test = same_from_decides _ _ d (decides_lawful q t); meaning = d }
