@@ -1,5 +1,5 @@
 -- Two trades are one where all their fields are, and a mirrored trade mirrored again is itself.
-use Rattle.std.proofs.Common.{◌≡◌, Bool, true, false, ◌&&◌, eqb, Decides, sym, refl, ap}
+use Rattle.std.proofs.Common.{◌≡◌, false, Decides, sym, refl, ap}
 use Rattle.notice.specs.declared.types.Direction.{Direction}
 use Rattle.notice.specs.declared.types.Direction.TheVariants.{Sells, Buys}
 use Rattle.notice.specs.declared.types.Trade.{Trade}

@@ -1,11 +1,11 @@
 -- A notice has one written form: what is read is lawful, and the bytes are the form of its fields.
-use Rattle.std.proofs.Common.{◌≡◌, ℕ, suc, ◌/◌, ◌%◌, ◌^◌, ◌<◌, ◌≤◌, Bool, true, false, cond, eqb, List, [], ◌∷◌, ◌++◌, length, get_or, take, drop, replicate, Ok, Decides, sym, refl, ap, ◌∙◌, subst, arith, w8, Fits}
+use Rattle.std.proofs.Common.{◌≡◌, ℕ, suc, ◌/◌, ◌%◌, ◌^◌, ◌<◌, ◌≤◌, false, cond, eqb, List, [], ◌∷◌, ◌++◌, length, get_or, take, drop, replicate, Ok, Decides, sym, refl, ap, ◌∙◌, subst, arith, w8, Fits}
 use Rattle.notice.proofs.Packed.{join_high, split_join, join_whole}
 use Rattle.notice.specs.declared.types.Fields.{Fields}
 use Rattle.notice.specs.declared.types.Notice.{Notice}
 use Rattle.notice.specs.declared.types.Trade.{Trade}
 use Rattle.notice.specs.Form.{layout, listed, fields_from, packed, checked, written, notice_of, fields_of, trade_of, stated}
-use Rattle.notice.specs.Lawful.{Lawful, lawful, limits_of, kindless, faults}
+use Rattle.notice.specs.Lawful.{Lawful, lawful, limits_of, kindless}
 use Rattle.notice.specs.Packing.{Fit, Byte, total, join, split, eights, gathered, twelve, two, check_of}
 use Rattle.notice.specs.Promises.{OneForm}
 use Rattle.notice.specs.Reading.{all_faults, held_fields, reading}

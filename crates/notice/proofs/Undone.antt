@@ -1,5 +1,5 @@
 -- Reading undoes writing.
-use Rattle.std.proofs.Common.{◌≡◌, ℕ, ◌^◌, ◌<◌, ◌≤◌, Bool, true, false, cond, not, eqb, Ok, sym, refl, ap, ◌∙◌, arith, rules}
+use Rattle.std.proofs.Common.{◌≡◌, ℕ, ◌<◌, Bool, true, false, cond, not, eqb, Ok, sym, refl, ap, ◌∙◌, arith}
 use Rattle.notice.proofs.Packed.{join_high, split_join, join_whole}
 use Rattle.notice.specs.declared.types.Fields.{Fields}
 use Rattle.notice.specs.Form.{layout, listed, fields_from, packed, checked, written, notice_of, trade_of}

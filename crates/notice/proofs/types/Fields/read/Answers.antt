@@ -3,7 +3,7 @@ use Rattle.notice.proofs.types.Fields.read.Goals as goal
 use Rattle.notice.specs.Form.{notice_of}
 use Rattle.notice.specs.Lawful.{faults}
 use Rattle.notice.specs.Reading.{byte_faults, held_fields}
-use Rattle.refusal.proofs.Judging.{passed, passed_value, judged_then, judged_passed, judged_fault}
+use Rattle.refusal.proofs.Judging.{passed_value, judged_then, judged_fault}
 use Rattle.refusal.specs.Judging.{judged}
 use Rattle.std.proofs.lemmas.Result.{err_from_is_err_and}
 

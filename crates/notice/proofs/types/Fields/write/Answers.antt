@@ -1,4 +1,4 @@
-use Rattle.std.proofs.Common.{◌≡◌, ℕ, false, List, [], sym, ap, ◌∙◌, subst, arith, rules}
+use Rattle.std.proofs.Common.{◌≡◌, ℕ, false, List, [], sym, ◌∙◌, subst, rules}
 use Rattle.notice.specs.declared.types.Fields.{Fields}
 use Rattle.notice.specs.Packing.{Fit}
 use Rattle.notice.specs.Promises.{ReadBack, Guarded}

@@ -43,7 +43,7 @@ returns c =
     let same = passed_value f c.in_ok-fields.fields (byte_faults bs) e in
     let answer : c.notice.result ≡ reading q bs =
     c.notice.ensures.answer ∙ ap (λ x. judged (faults q x) (notice_of x)) (sym same) ∙ sym (judged_then (byte_faults bs) (faults q f) f _ (notice_of f) e) in
-    let bytes = all_bytes bs c.type-inv.bytes in
+    let bytes = all_bytes bs c.type_inv.bytes in
     record {
       answer = answer;
       lawful = lawful_from_reading q bs c.notice.result answer;

@@ -1,4 +1,4 @@
-use Rattle.std.proofs.Common.{◌≡◌, ℕ, Bool, true, is_ok, IfOk, Ok, Err, Decides, Result, sym, ap, ◌∙◌}
+use Rattle.std.proofs.Common.{◌≡◌, ℕ, Bool, is_ok, IfOk, Ok, Err, Decides, Result, ap, ◌∙◌}
 use Rattle.notice.proofs.Single.{decides_lawful, passes_limits}
 use Rattle.notice.proofs.types.Trade.is_lawful.Goals as goal
 use Rattle.notice.specs.Lawful.{Lawful, limits_of}
