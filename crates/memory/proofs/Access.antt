@@ -1,5 +1,5 @@
 -- One point more in the table of access points.
-use Rattle.std.proofs.Common.{◌≡◌, ℕ, ◌+◌, ◌<◌, Bool, true, ◌&&◌, eqb, ◌≢◌, List, length, get_or, set, sym, refl, ◌∙◌}
+use Rattle.std.proofs.Common.{◌≡◌, ℕ, ◌+◌, ◌<◌, Bool, true, ◌&&◌, eqb, ◌≢◌, List, length, get_or, set, sym, refl}
 use Rattle.std.proofs.lemmas.Bool.{and_from, and_left, and_right, eq-eqb, ne_eqb}
 use Rattle.memory.proofs.Marking.{marks_more, marks_same}
 use Rattle.memory.specs.Held.{no_point}

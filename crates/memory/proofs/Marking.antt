@@ -1,10 +1,10 @@
 -- One place more of a register, in the table and in what is known of it.
-use Rattle.std.proofs.Common.{◌≡◌, ℕ, ◌+◌, ◌<◌, Bool, true, false, not, ◌||◌, eqb, ◌≢◌, ◌⊎◌, List, length, get_or, set, replicate, sym, refl, ap, ◌∙◌, ⊎_elim, add-one, arith, below_more}
+use Rattle.std.proofs.Common.{◌≡◌, ℕ, ◌+◌, ◌<◌, Bool, true, false, ◌||◌, eqb, ◌≢◌, ◌⊎◌, List, length, set, replicate, sym, ap, ◌∙◌, ⊎_elim, add-one, arith, below_more}
 use Rattle.std.proofs.lemmas.List.{get_or_past, get_or-replicate, get_or-set_same, get_or-set_other, length-replicate}
 use Rattle.std.proofs.lemmas.Bool.{cases_eq, cases_lt, both_ways, not-true, not_from_false, eq-eqb, ne_eqb, or_left}
 use Rattle.memory.specs.Tables.{marked, Blank, Marks}
 use Rattle.register.proofs.Meaning.{decides_unborne}
-use Rattle.register.specs.Numbers.{some, knows, Unborne, Distinct}
+use Rattle.register.specs.Numbers.{some, knows, Distinct}
 
 pub blank : (n : ℕ) → Blank (replicate n false)
 blank n k = ⊎_elim (λ l. get_or-replicate n k false false l) (λ l. get_or_past (replicate n false) k false (simp length-replicate l)) (cases_lt k n)

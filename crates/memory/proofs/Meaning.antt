@@ -1,13 +1,13 @@
 -- What the tests of sizes and order say.
-use Rattle.std.proofs.Common.{◌≡◌, ℕ, ◌<◌, ◌≤◌, Bool, true, false, cond, ◌&&◌, T, eqb, leb, ◌≢◌, List, get_or, ℤ, ◌≤ℤ◌, Some, None, Decides, Option, refl, arith}
+use Rattle.std.proofs.Common.{◌≡◌, ℕ, ◌<◌, ◌≤◌, Bool, true, false, cond, ◌&&◌, T, eqb, leb, ℤ, ◌≤ℤ◌, Some, None, Decides, Option, refl, arith}
 use lib.Signed.{le_z}
 use Rattle.memory.specs.declared.types.Extent.{Extent}
 use Rattle.memory.specs.declared.types.NoticeRecord.{NoticeRecord}
 use Rattle.memory.specs.declared.types.Outside.{Outside}
 use Rattle.memory.specs.declared.types.Point.{Point}
 use Rattle.memory.specs.declared.types.Reading.{Reading}
-use Rattle.memory.specs.Held.{Held, no_point, point, notice, party_number, point_number, notice_number, reading, outside_of, amount, sum_billed}
-use Rattle.memory.specs.Limits.{Between, between, ReadingRight, OutsideRight, AmountRight, reading_fits, outside_fits, amount_fits}
+use Rattle.memory.specs.Held.{Held, point, notice, party_number, point_number, notice_number, reading, outside_of, amount, sum_billed}
+use Rattle.memory.specs.Limits.{Between, between, ReadingRight, OutsideRight, reading_fits, outside_fits, amount_fits}
 use Rattle.memory.specs.Order.{Sized, sized, InOrder, Registers, Figures, RegistersPass, FiguresPass, PointRight, NoticeRight, AccessEntered, registers_in_order, figures_in_order, in_order, is_access, knows_party, knows_access, point_fits, notice_fits}
 use Rattle.notice.proofs.Single.{decides_lawful}
 use Rattle.register.proofs.Meaning.{decides_every, decides_entered, decides_distinct}

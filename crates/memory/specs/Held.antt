@@ -1,6 +1,6 @@
 -- What the brought memory holds, as plain lists, and what stands at a place.
 use Rattle.std.specs.Borrow.{Bor}
-use Rattle.std.specs.Prelude.{ℕ, ◌+◌, ◌*◌, List, get_or, ℤ, pos, None, Option, slice_index_or}
+use Rattle.std.specs.Prelude.{ℕ, ◌+◌, ◌*◌, List, get_or, pos, None, Option, slice_index_or}
 use Rattle.memory.specs.declared.types.Memory.{Memory}
 use Rattle.memory.specs.declared.types.NoticeRecord.{NoticeRecord}
 use Rattle.memory.specs.declared.types.Outside.{Outside}

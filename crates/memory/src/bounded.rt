@@ -71,7 +71,7 @@ impl Bounded for Mills {
 // Whether each of the first `used` items is within its limits.
 pub(crate) fn all_fit<T: Bounded>(items: &[T], used: usize) -> bool
     requires { used ≤ length items.now }
-    ensures { Decides result ((i : ℕ) → i < used → within (slice_index_or items.now i unset) ≡ true) }
+    ensures { Decides result ((i : ℕ) → i < used → T.within (slice_index_or items.now i T.unset) ≡ true) }
 {
     for i in 0..used {
         if !items[i].fits() {
@@ -84,7 +84,7 @@ pub(crate) fn all_fit<T: Bounded>(items: &[T], used: usize) -> bool
 // Whether each of the first `width` items of each of the first `rows` rows of 100 is within its limits.
 pub(crate) fn rows_fit<T: Bounded>(items: &[T], rows: usize, width: usize) -> bool
     requires { (rows * 100 ≤ length items.now) × (width ≤ 100) }
-    ensures { Decides result ((i : ℕ) → i < rows → (q : ℕ) → q < width → within (slice_index_or items.now (i * 100 + q) unset) ≡ true) }
+    ensures { Decides result ((i : ℕ) → i < rows → (q : ℕ) → q < width → T.within (slice_index_or items.now (i * 100 + q) T.unset) ≡ true) }
 {
     for i in 0..rows {
         for q in 0..width {

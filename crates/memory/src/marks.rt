@@ -17,8 +17,8 @@ const NO_NUMBER: usize = 0;
 // Marks the numbers of the first `used` records in a blank table, unless one is 0 or comes again.
 pub(crate) fn marks<R: Numbered>(records: &[R], used: usize, table: &mut [bool; NUMBERS]) -> bool
     requires { (used ≤ length records.now) × (Blank table.old) }
-    ensures answer { Decides result (Distinct (numbers numeral unset records.now) used) }
-    ensures after { result ≡ true → Marks table.new (knows used (numbers numeral unset records.now)) }
+    ensures answer { Decides result (Distinct (numbers R.numeral R.unset records.now) used) }
+    ensures after { result ≡ true → Marks table.new (knows used (numbers R.numeral R.unset records.now)) }
 {
     for i in 0..used {
         let number = records[i].number() as usize;

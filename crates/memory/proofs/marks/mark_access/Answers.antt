@@ -1,4 +1,4 @@
-use Rattle.std.proofs.Common.{arith, rules}
+use Rattle.std.proofs.Common.{rules}
 use Rattle.memory.proofs.Access.{access_none, access_more, access_same}
 use Rattle.memory.proofs.marks.mark_access.Goals as goal
 use Rattle.memory.proofs.marks.mark_access.Goals.{then-points-i-eq0, else-points-i-eq0}

@@ -1,17 +1,16 @@
-use Rattle.std.proofs.Common.{◌≡◌, ℕ, true, ◌⊎◌, get_or, sym, ◌∙◌, inl, inr, arith, rules}
+use Rattle.std.proofs.Common.{◌≡◌, true, ◌⊎◌, get_or, inl, inr, arith, rules}
 use Rattle.register.proofs.Meaning.{at_read}
 use Rattle.memory.proofs.Marking.{marks_none, distinct_none, turn, refused}
-use Rattle.memory.proofs.marks.marks.Given as given
 use Rattle.memory.proofs.marks.marks.Goals as goal
-use Rattle.memory.proofs.marks.marks.Goals.{then-number-eq-NO-NUMBER-via-then-number-eq-NO-NUMBER, then-number-eq-NO-NUMBER-via-else-number-eq-NO-NUMBER+then-table-number}
+use Rattle.memory.proofs.marks.marks.Goals.{then-number-eq-NO_NUMBER-via-then-number-eq-NO_NUMBER, then-number-eq-NO_NUMBER-via-else-number-eq-NO_NUMBER+then-table-number}
 use Rattle.memory.specs.Tables.{marked}
 
-pub returns-then-number-eq-NO-NUMBER : goal.returns-then-number-eq-NO-NUMBER
-returns-then-number-eq-NO-NUMBER g c =
+pub returns-then-number-eq-NO_NUMBER : goal.returns-then-number-eq-NO_NUMBER
+returns-then-number-eq-NO_NUMBER g c =
     let why : (c.number-number.result ≡ 0) ⊎ (marked c.loop-i.table c.number-number.result ≡ true) =
-    elim c.then-number-eq-NO-NUMBER.branch [
-      | then-number-eq-NO-NUMBER-via-then-number-eq-NO-NUMBER w ↦ inl w.if-number-eq-NO-NUMBER.true
-      | then-number-eq-NO-NUMBER-via-else-number-eq-NO-NUMBER+then-table-number w ↦ inr w.if-table-number.true
+    elim c.then-number-eq-NO_NUMBER.branch [
+      | then-number-eq-NO_NUMBER-via-then-number-eq-NO_NUMBER w ↦ inl w.if-number-eq-NO_NUMBER.true
+      | then-number-eq-NO_NUMBER-via-else-number-eq-NO_NUMBER+then-table-number w ↦ inr w.if-table-number.true
     ] in
     let is = at_read g.R.Numbered.numeral c.args.records.now c.loop-i.i c.index-records-i.result c.number-number.result g.R.Numbered.unset (omega arith) c.index-records-i.is c.number-number.ensures in
     let no' = refused c.loop-i.table (λ k. g.R.Numbered.numeral (get_or c.args.records.now k g.R.Numbered.unset)) c.loop-i.i c.number-number.result is c.loop-i.invariant.1 why c.args.used c.loop-i-test.true in
@@ -21,7 +20,7 @@ pub loop-i-preserved : goal.loop-i-preserved
 loop-i-preserved g c =
     let is = at_read g.R.Numbered.numeral c.args.records.now c.loop-i.i c.index-records-i.result c.number-number.result g.R.Numbered.unset (omega arith) c.index-records-i.is c.number-number.ensures in
     let t = turn c.loop-i.table (λ k. g.R.Numbered.numeral (get_or c.args.records.now k g.R.Numbered.unset)) c.loop-i.i c.number-number.result is c.loop-i.invariant.1
-    (omega arith) c.if-number-eq-NO-NUMBER.false c.if-table-number.false c.loop-i.invariant.0 in
+    (omega arith) c.if-number-eq-NO_NUMBER.false c.if-table-number.false c.loop-i.invariant.0 in
     (t.0, t.1, search rules)
 
 pub loop-i-init : goal.loop-i-init

@@ -1,6 +1,5 @@
 use Rattle.std.proofs.Common.{◌≡◌, length, get_or}
 use Rattle.memory.specs.Tables.{Marks}
-use Rattle.register.specs.Entering.{numbers}
 use Rattle.register.specs.Numbers.{Distinct, knows}
 use Rattle.memory.proofs.marks.marks.Given as goal
 

@@ -1,4 +1,4 @@
-use Rattle.std.proofs.Common.{◌≡◌, ℕ, ◌≤◌, true, false, cond, get_or, sym, ap, ◌∙◌, add-one, arith}
+use Rattle.std.proofs.Common.{◌≡◌, ℕ, cond, get_or, sym, ap, ◌∙◌, add-one, arith}
 use Rattle.memory.proofs.waiting.pending.Goals as goal
 use Rattle.memory.proofs.waiting.pending.Goals.{then-is_pending, else-is_pending}
 use Rattle.memory.specs.Held.{no_notice}

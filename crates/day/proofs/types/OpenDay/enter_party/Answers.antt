@@ -12,12 +12,12 @@ use Rattle.refusal.specs.declared.fault.Fault.TheVariants.{Number}
 use Rattle.std.proofs.lemmas.Result.{err_from_is_err_and}
 use Rattle.std.proofs.lemmas.Bool.{cond-false, cond-true, eq-eqb, ne_eqb}
 
-pub returns-then-number-eq-NO-NUMBER : goal.returns-then-number-eq-NO-NUMBER
-returns-then-number-eq-NO-NUMBER c =
+pub returns-then-number-eq-NO_NUMBER : goal.returns-then-number-eq-NO_NUMBER
+returns-then-number-eq-NO_NUMBER c =
     let e = c.args.self.now.extent in
     let m = held c.args.memory in
     let n = c.args.number in
-    let out = refused_first e m ((eqb n 0, Number) ∷ []) (memory_faults e m ++ party_faults e.parties m.parties n) (party_entered e m n) Number (cond-true (eqb n 0) _ _ (eq-eqb n 0 c.if-number-eq-NO-NUMBER.true)) in
+    let out = refused_first e m ((eqb n 0, Number) ∷ []) (memory_faults e m ++ party_faults e.parties m.parties n) (party_entered e m n) Number (cond-true (eqb n 0) _ _ (eq-eqb n 0 c.if-number-eq-NO_NUMBER.true)) in
     record { outcome = out; kept = tt; admits = admits_as e m n _ (ap (λ (o : Outcome). o.answer) out) }
 
 pub returns-in_err-ready : goal.returns-in_err-ready
@@ -26,7 +26,7 @@ returns-in_err-ready c =
     let e = c.args.self.now.extent in
     let m = held c.args.memory in
     let n = c.args.number in
-    let fault = cond-false (eqb n 0) _ _ (ne_eqb n 0 c.if-number-eq-NO-NUMBER.false) ∙ sym c.in_err-ready.ensures.answer in
+    let fault = cond-false (eqb n 0) _ _ (ne_eqb n 0 c.if-number-eq-NO_NUMBER.false) ∙ sym c.in_err-ready.ensures.answer in
     let out = refused_first e m ((eqb n 0, Number) ∷ memory_faults e m) (party_faults e.parties m.parties n) (party_entered e m n) _ fault in
     rw (p.1, p.2) (record { outcome = out; kept = tt; admits = admits_as e m n _ (ap (λ (o : Outcome). o.answer) out) })
 
@@ -38,7 +38,7 @@ returns-in_err-append_party c =
     let n = c.args.number in
     let a = c.in_err-append_party.ensures in
     let front = passed tt _ (memory_faults e m) (sym c.ready.ensures.answer ∙ c.in_ok-ready.was) in
-    let refusal = refused_later e m ((eqb n 0, Number) ∷ memory_faults e m) (party_faults e.parties m.parties n) (party_entered e m n) _ (ne_eqb n 0 c.if-number-eq-NO-NUMBER.false, front) (sym a.answer) in
+    let refusal = refused_later e m ((eqb n 0, Number) ∷ memory_faults e m) (party_faults e.parties m.parties n) (party_entered e m n) _ (ne_eqb n 0 c.if-number-eq-NO_NUMBER.false, front) (sym a.answer) in
     let out = refusal ∙ same_outcome _ _ refl (sym a.extent) (sym a.parties) refl refl refl (sym a.outside) refl (sym a.amounts) (sym a.billed) refl in
     rw (p.1, p.2) (record { outcome = out; kept = tt; admits = admits_as e m n _ (ap (λ (o : Outcome). o.answer) out) })
 
@@ -50,7 +50,7 @@ returns c =
     let a = c.in_ok-append_party.ensures in
     let front = passed tt _ (memory_faults e m) (sym c.ready.ensures.answer ∙ c.in_ok-ready.was) in
     let back = passed tt _ (party_faults e.parties m.parties n) (sym c.append_party.ensures.answer ∙ c.in_ok-append_party.was) in
-    let named = c.if-number-eq-NO-NUMBER.false in
+    let named = c.if-number-eq-NO_NUMBER.false in
     let grant = granted e m (entering_faults e m n) (party_entered e m n) (ne_eqb n 0 named, passed_both (memory_faults e m) (party_faults e.parties m.parties n) front back) in
     let ready = c.in_ok-ready.ensures.meaning in
     let left_is = same_outcome _ _ refl (sym a.extent) (sym a.parties) refl refl refl (sym a.outside) refl (sym a.amounts) (sym a.billed) refl in
