@@ -1,5 +1,5 @@
 -- What the brought memory holds, as plain lists, and what stands at a place.
-use Rattle.std.specs.Borrow.{Bor}
+use Rattle.std.specs.Borrow.{MutBor}
 use Rattle.std.specs.Prelude.{ℕ, ◌+◌, ◌*◌, List, get_or, pos, None, Option, slice_index_or}
 use Rattle.memory.specs.declared.types.Memory.{Memory}
 use Rattle.memory.specs.declared.types.NoticeRecord.{NoticeRecord}
@@ -41,8 +41,8 @@ held m =
 -- what it holds when the call returns
 abbrev pub Left : Type 0
 Left =
-    Bor (List Party) × (Bor (List Point) × (Bor (List NoticeRecord) × (Bor (List (Option Reading)) × (Bor (List Outside)
-    × (Bor (List Kwh) × (Bor (List Mills) × (Bor (List Mills) × (Bor (List Mills) × Unit {0}))))))))
+    MutBor (List Party) × (MutBor (List Point) × (MutBor (List NoticeRecord) × (MutBor (List (Option Reading)) × (MutBor (List Outside)
+    × (MutBor (List Kwh) × (MutBor (List Mills) × (MutBor (List Mills) × (MutBor (List Mills) × Unit {0}))))))))
 
 abbrev pub left : Left → Held
 left m =

@@ -1,6 +1,6 @@
 -- A written notice with one byte changed has a wrong check.
 use Rattle.std.proofs.Common.{◌≡◌, ℕ, zero, suc, ◌+◌, ◌-◌, ◌*◌, ◌/◌, ◌%◌, ◌^◌, ◌<◌, Bool, true, not, ◌&&◌, eqb, List, [], ◌∷◌, ◌++◌, length, get_or, take, drop, set, replicate, Err, sym, refl, ap, ◌∙◌, inl, inr, le_of_suc-le-suc, not-suc-le-zero, add-zero, mul_assoc, add-mul, mul-add, mul_left_comm, one-add, arith}
-use Rattle.std.specs.List.{AllByRecursion as All}
+use Rattle.std.specs.List.{AllByRecursion}
 use Rattle.std.proofs.lemmas.Bool.{cases_lt, cond-true, cond-false, eqb-true, eq-eqb, ne_eqb}
 use Rattle.std.proofs.lemmas.Bool.Decides.{Decides-below_and}
 use Rattle.std.proofs.ByRecursion.{All-get_or, All-set}
@@ -71,7 +71,7 @@ module _ (q : ℕ) (xs ys : List ℕ) (long : length xs ≡ 12) (short : length 
       let back : take 2 (drop 12 (xs ++ ys)) ≡ ys = ap (take 2) (drop_at xs ys 12 long) ∙ take_all 2 ys (omega arith) in
       sym (differs q (xs ++ ys) l (λ e. ne (sym (ap check_of front) ∙ e ∙ ap (gathered 0) back)))
 
-pub changed_in : (q : ℕ) (xs ys : List ℕ) (i b : ℕ) → length xs ≡ 12 → length ys ≡ 2 → All Byte xs → All Byte ys → check_of xs ≡ gathered 0 ys →
+pub changed_in : (q : ℕ) (xs ys : List ℕ) (i b : ℕ) → length xs ≡ 12 → length ys ≡ 2 → AllByRecursion Byte xs → AllByRecursion Byte ys → check_of xs ≡ gathered 0 ys →
     i < 14 → Byte b → (get_or (xs ++ ys) i 0 ≡ b → ⊥) → reading q (set (xs ++ ys) i b) ≡ Err Check
 changed_in q xs ys i b long short hx hy check h k ne = elim (cases_lt i 12) [
   | inl l ↦
@@ -91,7 +91,7 @@ changed_in q xs ys i b long short hx hy check h k ne = elim (cases_lt i 12) [
       ne (get_or-append_right xs ys 12 i 0 long g ∙ sym (ap (λ zs. get_or zs (i - 12) 0) z) ∙ get_or-set_same ys (i - 12) b 0 p))
 ]
 
-octets : (k n : ℕ) → All Byte (split (replicate k 8) n)
+octets : (k n : ℕ) → AllByRecursion Byte (split (replicate k 8) n)
 octets zero n = tt
 octets (suc k) n = (omega arith, octets k n)
 

@@ -11,14 +11,14 @@ use Rattle.notice.specs.Promises.{OneForm}
 use Rattle.notice.specs.Reading.{all_faults, held_fields, reading}
 use Rattle.refusal.proofs.Judging.{Passed, passed, passed_ok, passed_value}
 use Rattle.refusal.specs.Judging.{judged}
-use Rattle.std.proofs.ByRecursion.{All-take, All-drop}
+use Rattle.std.proofs.ByRecursion.{All-from_get_or, All-take, All-drop}
 use Rattle.std.proofs.lemmas.List.{length-take, length-drop, take_all, take-append-drop}
 use Rattle.std.proofs.lemmas.Bool.{and_parts, eqb-true, leb-true, not-false}
 use Rattle.std.proofs.lemmas.Bool.Decides.{nat_tests}
-use Rattle.std.specs.List.{AllByRecursion as All}
+use Rattle.std.specs.List.{AllByRecursion}
 
 -- the numbers of a slice of bytes are bytes
-pub all_bytes : (xs : List ℕ) → ((i : ℕ) → Fits w8 (get_or xs i 0)) → All Byte xs
+pub all_bytes : (xs : List ℕ) → ((i : ℕ) → Fits w8 (get_or xs i 0)) → AllByRecursion Byte xs
 all_bytes [] h = tt
 all_bytes (x ∷ xs) h = ((h 0).fits, all_bytes xs (λ i. h (suc i)))
 
@@ -52,7 +52,7 @@ decides_lawful quarters t = (
 pub meant_back : (f : Fields) → kindless f ≡ false → fields_of (notice_of f) ≡ f
 meant_back f k = grind (arith, nat_tests)
 
-bytes_fit : (xs : List ℕ) → All Byte xs → Fit (eights xs) xs
+bytes_fit : (xs : List ℕ) → AllByRecursion Byte xs → Fit (eights xs) xs
 bytes_fit [] h = tt
 bytes_fit (x ∷ xs) h = (h.0, bytes_fit xs h.1)
 
@@ -60,7 +60,7 @@ widths : (xs : List ℕ) → eights xs ≡ replicate (length xs) 8
 widths [] = refl
 widths (x ∷ xs) = ap (λ ws. 8 ∷ ws) (widths xs)
 
-module _ (k : ℕ) (xs : List ℕ) (long : length xs ≡ k) (bytes : All Byte xs) where
+module _ (k : ℕ) (xs : List ℕ) (long : length xs ≡ k) (bytes : AllByRecursion Byte xs) where
   eight : eights xs ≡ replicate k 8
   eight = widths xs ∙ ap (λ n. replicate n 8) long
 
@@ -98,7 +98,7 @@ read_lawful q bs n e =
     subst (Lawful q) (sym (states f) ∙ ap stated same) (lawful_from q (trade_of f) (omega arith) (omega arith) (omega arith) p.1.1.1)
 
 -- bytes that are read, as whatever of their fields
-module _ (q : ℕ) (bs : List ℕ) (bytes : All Byte bs) (p : Passed (all_faults q bs)) where
+module _ (q : ℕ) (bs : List ℕ) (bytes : AllByRecursion Byte bs) (p : Passed (all_faults q bs)) where
   pub its_form : written (held_fields bs) ≡ bs
   its_form =
       let long : length bs ≡ 14 = eqb-true _ _ (not-false _ p.0) in
@@ -113,12 +113,12 @@ module _ (q : ℕ) (bs : List ℕ) (bytes : All Byte bs) (p : Passed (all_faults
       ap (λ x. checked (split twelve x)) (regained m small) ∙ form ∙ cut bs long
 
 -- the form of what is read
-pub form_of : (q : ℕ) (bs : List ℕ) (n : Notice) → All Byte bs → reading q bs ≡ Ok n → written (fields_of n) ≡ bs
+pub form_of : (q : ℕ) (bs : List ℕ) (n : Notice) → AllByRecursion Byte bs → reading q bs ≡ Ok n → written (fields_of n) ≡ bs
 form_of q bs n h e =
     let p = passed (notice_of (held_fields bs)) n (all_faults q bs) e in
     let same = passed_value (notice_of (held_fields bs)) n (all_faults q bs) e in
     ap written (ap fields_of (sym same) ∙ meant_back (held_fields bs) p.1.1.0) ∙ its_form q bs h p
 
-pub one_form : (q : ℕ) (bs : List ℕ) (n : Notice) → All Byte bs → reading q bs ≡ Ok n → OneForm bs n
+pub one_form : (q : ℕ) (bs : List ℕ) (n : Notice) → AllByRecursion Byte bs → reading q bs ≡ Ok n → OneForm bs n
 unfolding OneForm
-one_form q bs n h e quarters other k f = sym (form_of quarters other n k f) ∙ form_of q bs n h e
+one_form q bs n h e quarters other k f = sym (form_of quarters other n (All-from_get_or Byte other 0 (λ i l. k i 0 l)) f) ∙ form_of q bs n h e

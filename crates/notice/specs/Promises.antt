@@ -1,5 +1,5 @@
 -- What holds of the fourteen bytes, in the words of those who send and read them.
-use Rattle.std.specs.Prelude.{◌≡◌, ℕ, ◌<◌, List, Ok, Err, ◌≢◌, slice_index, slice_set}
+use Rattle.std.specs.Prelude.{◌≡◌, ℕ, ◌<◌, List, Ok, Err, ◌≢◌, slice_index, slice_set, All}
 use Rattle.notice.specs.declared.types.Fields.{Fields}
 use Rattle.notice.specs.declared.types.Notice.{Notice}
 use Rattle.notice.specs.Form.{notice_of, trade_of}
@@ -7,7 +7,6 @@ use Rattle.notice.specs.Lawful.{Lawful}
 use Rattle.notice.specs.Packing.{Byte}
 use Rattle.notice.specs.Reading.{reading, reading_fields}
 use Rattle.refusal.specs.declared.fault.Fault.TheVariants.{Check}
-use Rattle.std.specs.List.{AllByRecursion as All}
 
 -- in every day that the trade is lawful in, the bytes are read as the very fields, and as the notice that these mean
 unfoldable pub ReadBack : Fields → List ℕ → Type 0

@@ -2,11 +2,11 @@
 use Rattle.std.proofs.Common.{◌≡◌, ℕ, Bool, true, false, List, [], ◌∷◌, ◌++◌, is_ok, Ok, Err, Decides, refl, ap, arith}
 use Rattle.refusal.specs.declared.fault.Fault.{Fault}
 use Rattle.refusal.specs.Judging.{judged}
-use Rattle.std.specs.List.{AllByRecursion as All}
+use Rattle.std.specs.List.{AllByRecursion}
 
 -- no test holds
 abbrev pub Passed : List (Bool × Fault) → Type 0
-Passed ts = All (λ t. t.0 ≡ false) ts
+Passed ts = AllByRecursion (λ t. t.0 ≡ false) ts
 
 module _ {A : Type 0} (a b : A) where
   pub passed : (ts : List (Bool × Fault)) → judged ts a ≡ Ok b → Passed ts

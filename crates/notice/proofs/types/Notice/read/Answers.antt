@@ -12,9 +12,9 @@ use Rattle.refusal.proofs.Judging.{passed_value, judged_then, judged_fault}
 use Rattle.refusal.specs.declared.fault.Fault.{Fault}
 use Rattle.refusal.specs.Judging.{judged}
 use Rattle.std.proofs.lemmas.Result.{err_from_is_err_and}
-use Rattle.std.specs.List.{AllByRecursion as All}
+use Rattle.std.specs.List.{AllByRecursion}
 
-single_from : (q : ℕ) (bs : List ℕ) → All Byte bs → (r : Result Notice Fault) → r ≡ reading q bs → IfOk r (OneForm bs)
+single_from : (q : ℕ) (bs : List ℕ) → AllByRecursion Byte bs → (r : Result Notice Fault) → r ≡ reading q bs → IfOk r (OneForm bs)
 single_from q bs h (Ok n) e = one_form q bs n h (sym e)
 single_from q bs h (Err f) e = tt
 
@@ -22,7 +22,7 @@ lawful_from_reading : (q : ℕ) (bs : List ℕ) (r : Result Notice Fault) → r 
 lawful_from_reading q bs (Ok n) e = read_lawful q bs n (sym e)
 lawful_from_reading q bs (Err f) e = tt
 
-guarded_from : (q : ℕ) (bs : List ℕ) → All Byte bs → (r : Result Notice Fault) → r ≡ reading q bs → IfOk r (λ _. Guarded bs)
+guarded_from : (q : ℕ) (bs : List ℕ) → AllByRecursion Byte bs → (r : Result Notice Fault) → r ≡ reading q bs → IfOk r (λ _. Guarded bs)
 guarded_from q bs h (Ok n) e = subst Guarded (form_of q bs n h (sym e)) (guarded (fields_of n))
 guarded_from q bs h (Err f) e = tt
 
