@@ -1,11 +1,11 @@
 -- On memory in order, a party is entered exactly when there is room for it.
-use Rattle.std.proofs.Common.{◌≡◌, ℕ, not, eqb, ◌∷◌, Result, ap}
+use Rattle.std.proofs.Common.{◌≡◌, ℕ, not, Result, ap}
 use Rattle.day.proofs.Concluded.{decides_granted, ready_passes}
-use Rattle.day.specs.Entering.{Admits, RoomForParty, entering_faults, entering_party, party_entered, party_faults}
+use Rattle.day.specs.Entering.{Admits, entering_faults, entering_party, party_entered, party_faults}
 use Rattle.memory.specs.declared.types.Extent.{Extent}
 use Rattle.memory.specs.Held.{Held, party_number}
 use Rattle.memory.specs.Ready.{memory_faults}
-use Rattle.refusal.proofs.Judging.{Passed, passed_both, passed_parts}
+use Rattle.refusal.proofs.Judging.{passed_both, passed_parts}
 use Rattle.refusal.specs.declared.fault.Fault.{Fault}
 use Rattle.register.proofs.Meaning.{decides_unborne}
 use Rattle.std.proofs.lemmas.Bool.{eqb-false, leb-false, lt-leb, ne_eqb, not-true}

@@ -1,17 +1,16 @@
 -- On memory in order, a lodging is accepted exactly when there is room for it, a confirmation exactly when it mirrors a pending lodging,
 -- and a withdrawal exactly when it repeats one.
-use Rattle.std.proofs.Common.{◌≡◌, ℕ, ◌<◌, Bool, true, false, not, ◌&&◌, List, ◌∷◌, length, get_or, is_some, is_ok, Some, None, Ok, Err, Decides, Option, Result, sym, refl, ap, ◌∙◌, subst, inl, inr, MatchOption}
+use Rattle.std.proofs.Common.{◌≡◌, ℕ, true, false, not, List, ◌∷◌, is_ok, Some, None, Ok, Decides, Option, Result, sym, refl, ap, ◌∙◌, subst, MatchOption}
 use Rattle.day.proofs.Concluded.{answered_alike, ready_passes}
 use Rattle.day.proofs.NoticeKept.{parties_entered}
 use Rattle.day.specs.Answering.{RoomForNotice, Waits, Answers, Lodges}
 use Rattle.day.specs.Noticing.{party_unknown, notice_place, found_record, pending_in, lodging_faults, answer_faults, kind_faults, state_faults, noticed, after_reading, noticing}
-use Rattle.day.specs.Outcome.{Outcome, Grant, concluded}
 use Rattle.memory.specs.declared.types.Extent.{Extent}
 use Rattle.memory.specs.declared.types.NoticeRecord.{NoticeRecord}
 use Rattle.memory.specs.declared.types.Stage.{Stage}
 use Rattle.memory.specs.declared.types.Stage.TheVariants.{Pending, Confirmed, Withdrawn}
-use Rattle.memory.specs.Held.{Held, no_notice, party_number, notice, notice_number}
-use Rattle.memory.specs.Order.{Sized, InOrder, sized, in_order, PartyEntered}
+use Rattle.memory.specs.Held.{Held, party_number, notice, notice_number}
+use Rattle.memory.specs.Order.{Sized, InOrder, PartyEntered}
 use Rattle.memory.specs.Pending.{is_pending}
 use Rattle.memory.specs.Ready.{memory_faults}
 use Rattle.notice.proofs.Mirrored.{decides_same_trade}

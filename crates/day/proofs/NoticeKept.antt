@@ -1,15 +1,15 @@
 -- Memory stays in order when a notice is taken.
-use Rattle.std.proofs.Common.{◌≡◌, ℕ, ◌+◌, ◌<◌, ◌≤◌, true, false, not, ◌&&◌, ◌≢◌, List, length, get_or, set, Some, None, Option, unwrap_or, sym, refl, ap, ◌∙◌, subst, ⊎_elim, arith, below_more, MatchOption}
+use Rattle.std.proofs.Common.{◌≡◌, ℕ, ◌+◌, ◌<◌, ◌≤◌, false, not, List, length, get_or, set, unwrap_or, sym, ap, subst, ⊎_elim, arith, below_more}
 use Rattle.day.proofs.Concluded.{Kept}
 use Rattle.day.proofs.PartyKept.{pushed_below}
-use Rattle.day.specs.Noticing.{party_unknown, notice_place, found_record, pending_in, kind_faults, lodged, restaged, noticed}
+use Rattle.day.specs.Noticing.{party_unknown, notice_place, kind_faults, lodged, noticed}
 use Rattle.memory.specs.declared.types.Extent.{Extent}
 use Rattle.memory.specs.declared.types.NoticeRecord.{NoticeRecord}
 use Rattle.memory.specs.declared.types.Point.{Point}
 use Rattle.memory.specs.declared.types.Stage.{Stage}
 use Rattle.memory.specs.declared.types.Stage.TheVariants.{Pending, Confirmed, Withdrawn}
 use Rattle.memory.specs.Held.{Held, no_notice, party_number, notice, notice_number, notice_numbers}
-use Rattle.memory.specs.Order.{Sized, InOrder, Registers, Figures, PointRight, NoticeRight, PartyEntered}
+use Rattle.memory.specs.Order.{Sized, InOrder, PointRight, NoticeRight, PartyEntered}
 use Rattle.memory.specs.With.{with_notices, with_notice_count}
 use Rattle.notice.specs.declared.types.Notice.{Notice}
 use Rattle.notice.specs.declared.types.Notice.TheVariants.{Lodging, Confirmation, Withdrawal}
@@ -18,8 +18,7 @@ use Rattle.notice.specs.Lawful.{Lawful}
 use Rattle.notice.specs.Form.{stated}
 use Rattle.refusal.proofs.Judging.{Passed}
 use Rattle.register.proofs.Meaning.{distinct_more, distinct_same, decides_entered, decides_unborne}
-use Rattle.register.proofs.Places.{place_found}
-use Rattle.register.specs.Numbers.{Distinct, Unborne, FirstAt, place_of}
+use Rattle.register.specs.Numbers.{Distinct, Unborne}
 use Rattle.std.proofs.lemmas.List.{length-set, get_or-set_same, get_or-set_other, set_past}
 use Rattle.std.proofs.lemmas.Bool.{cases_eq, cases_lt, leb-false, not-false, or_parts}
 

@@ -1,7 +1,6 @@
 -- Memory stays in order when a party is entered.
-use Rattle.std.proofs.Common.{◌≡◌, ℕ, ◌+◌, ◌*◌, ◌<◌, ◌≤◌, true, false, cond, not, eqb, ◌≢◌, List, [], ◌∷◌, ◌++◌, length, get_or, set, pos, sym, refl, ap, ◌∙◌, subst, ⊎_elim, arith, below_more}
+use Rattle.std.proofs.Common.{◌≡◌, ℕ, ◌+◌, ◌<◌, ◌≤◌, cond, not, ◌≢◌, List, length, get_or, set, sym, ap, ◌∙◌, subst, ⊎_elim, arith, below_more}
 use lib.Signed.{le_z_yes}
-use Rattle.calendar.specs.Days.{is_day}
 use Rattle.day.proofs.Concluded.{Kept}
 use Rattle.day.specs.Entering.{party_entered, party_faults}
 use Rattle.memory.proofs.Renewed.{length_renewed, row_at, row_other}

@@ -1,5 +1,5 @@
 -- What a call upon an open day gives: its answer, and the day and all memory that it leaves.
-use Rattle.std.specs.Prelude.{Bool, List, Ok, Err, Result}
+use Rattle.std.specs.Prelude.{Ok, Err, Result}
 use Rattle.memory.specs.declared.types.Extent.{Extent}
 use Rattle.memory.specs.Held.{Held}
 use Rattle.refusal.specs.declared.fault.Fault.{Fault}

@@ -1,5 +1,5 @@
 -- One line more in the text of a log.
-use Rattle.std.proofs.Common.{◌≡◌, ℕ, ◌+◌, ◌<◌, ◌≤◌, List, [], ◌++◌, length, get_or, drop, codes, sym, ap, ◌∙◌, append_assoc, append-nil}
+use Rattle.std.proofs.Common.{◌≡◌, ℕ, ◌+◌, ◌<◌, ◌≤◌, List, ◌++◌, length, get_or, drop, codes, sym, ap, ◌∙◌, append_assoc, append-nil}
 use Rattle.noticelog.specs.declared.line.Line.{Line}
 use Rattle.noticelog.specs.Text.{line_text, log_text}
 use Rattle.std.proofs.lemmas.List.{at_drop_all, at_drop_more}

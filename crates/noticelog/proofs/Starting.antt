@@ -1,9 +1,8 @@
 -- One party more at the start.
-use Rattle.std.proofs.Common.{◌≡◌, ℕ, ◌+◌, ◌<◌, length, get_or, Ok, sym, refl, ap, ◌∙◌, arith, below_more}
+use Rattle.std.proofs.Common.{◌≡◌, ℕ, ◌+◌, ◌<◌, length, Ok, sym, refl, ap, ◌∙◌, arith, below_more}
 use Rattle.day.proofs.Concluded.{granted_back}
 use Rattle.day.proofs.PartyKept.{pushed_below}
 use Rattle.day.specs.Entering.{entering_faults, entering_party, party_entered}
-use Rattle.day.specs.Outcome.{Outcome}
 use Rattle.memory.specs.declared.types.Extent.{Extent}
 use Rattle.memory.specs.declared.types.Party.{Party}
 use Rattle.memory.specs.Held.{Held, no_party, party_number}

@@ -1,4 +1,4 @@
-use Rattle.std.proofs.Common.{◌≡◌, Some, sym, ap, ◌∙◌, arith, rules}
+use Rattle.std.proofs.Common.{◌≡◌, Some, sym, ap, ◌∙◌, rules}
 use Rattle.day.proofs.submission.answer.Goals as goal
 use Rattle.day.specs.Noticing.{notice_place}
 use Rattle.memory.specs.declared.types.NoticeRecord.{NoticeRecord}

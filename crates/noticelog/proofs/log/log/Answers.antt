@@ -1,4 +1,4 @@
-use Rattle.std.proofs.Common.{◌≡◌, ◌+◌, ◌-◌, ◌<◌, true, false, eqb, ◌++◌, length, take, drop, sym, ap, ◌∙◌, arith, rules}
+use Rattle.std.proofs.Common.{◌≡◌, ◌+◌, ◌-◌, ◌<◌, ◌++◌, length, take, drop, sym, ap, ◌∙◌, arith}
 use Rattle.day.specs.Days.{open_extent}
 use Rattle.noticelog.proofs.log.log.Goals as goal
 use Rattle.noticelog.proofs.log.log.Goals.{else-loop-place-test, then-loop-place-test+then-is_empty}

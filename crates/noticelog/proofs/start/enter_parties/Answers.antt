@@ -1,4 +1,3 @@
-use Rattle.std.proofs.Common.{◌≡◌, sym, ap, ◌∙◌, rules}
 use Rattle.noticelog.proofs.start.enter_parties.Goals as goal
 use Rattle.noticelog.proofs.Starting.{numbered_more, numbered_none}
 use Rattle.day.specs.Days.{open_extent}

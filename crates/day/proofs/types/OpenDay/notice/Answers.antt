@@ -1,16 +1,15 @@
-use Rattle.std.proofs.Common.{◌≡◌, ◌∷◌, sym, refl, ap, ◌∙◌, subst}
+use Rattle.std.proofs.Common.{◌∷◌, sym, refl, ap, ◌∙◌, subst}
 use Rattle.day.proofs.Answered.{answers_as, lodges_as}
 use Rattle.day.proofs.Concluded.{Kept, granted, refused_first, refused_later, same_outcome}
 use Rattle.day.proofs.NoticeKept.{notice_kept}
 use Rattle.day.proofs.types.OpenDay.notice.Goals as goal
-use Rattle.day.specs.Noticing.{after_reading, kind_faults, noticed, noticing, party_unknown, state_faults}
+use Rattle.day.specs.Noticing.{after_reading, kind_faults, noticed, party_unknown, state_faults}
 use Rattle.day.specs.Outcome.{Outcome, concluded}
 use Rattle.memory.specs.Held.{held}
 use Rattle.memory.specs.Ready.{memory_faults}
 use Rattle.notice.specs.Form.{stated}
 use Rattle.refusal.proofs.Judging.{passed, passed_both}
 use Rattle.refusal.specs.declared.fault.Fault.TheVariants.{UnknownParty}
-use Rattle.refusal.specs.Judging.{judged}
 use Rattle.std.proofs.lemmas.Result.{err_from_is_err_and}
 
 pub returns-in_err-notice : goal.returns-in_err-notice
