@@ -123,7 +123,7 @@ fn party_on(
     billed: &mut [Mills],
     bills: &mut [Mills],
 ) -> Result<(), Fault>
-    ensures { entering_party (open_extent day.old) (record { parties = parties.entry.now; points = points.old; notices = notices.old; readings = readings.old; outside = outside.old; imbalances = imbalances.old; amounts = amounts.old; billed = billed.old; bills = bills.old }) number ≡ record { answer = result; extent = open_extent day.new; memory = record { parties = parties.exit.now; points = points.new; notices = notices.new; readings = readings.new; outside = outside.new; imbalances = imbalances.new; amounts = amounts.new; billed = billed.new; bills = bills.new } } }
+    ensures { entering_party (open_extent day.old) (record { parties = parties.old; points = points.old; notices = notices.old; readings = readings.old; outside = outside.old; imbalances = imbalances.old; amounts = amounts.old; billed = billed.old; bills = bills.old }) number ≡ record { answer = result; extent = open_extent day.new; memory = record { parties = parties.new; points = points.new; notices = notices.new; readings = readings.new; outside = outside.new; imbalances = imbalances.new; amounts = amounts.new; billed = billed.new; bills = bills.new } } }
 {
     let memory = Memory {
         parties,
@@ -152,7 +152,7 @@ fn notice_on(
     billed: &mut [Mills],
     bills: &mut [Mills],
 ) -> Result<(), Fault>
-    ensures { noticing (open_extent day.old) (record { parties = parties.entry.now; points = points.old; notices = notices.old; readings = readings.old; outside = outside.old; imbalances = imbalances.old; amounts = amounts.old; billed = billed.old; bills = bills.old }) bytes.now ≡ record { answer = result; extent = open_extent day.new; memory = record { parties = parties.exit.now; points = points.new; notices = notices.new; readings = readings.new; outside = outside.new; imbalances = imbalances.new; amounts = amounts.new; billed = billed.new; bills = bills.new } } }
+    ensures { noticing (open_extent day.old) (record { parties = parties.old; points = points.old; notices = notices.old; readings = readings.old; outside = outside.old; imbalances = imbalances.old; amounts = amounts.old; billed = billed.old; bills = bills.old }) bytes.now ≡ record { answer = result; extent = open_extent day.new; memory = record { parties = parties.new; points = points.new; notices = notices.new; readings = readings.new; outside = outside.new; imbalances = imbalances.new; amounts = amounts.new; billed = billed.new; bills = bills.new } } }
 {
     let memory = Memory {
         parties,
