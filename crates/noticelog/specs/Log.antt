@@ -6,7 +6,7 @@ use Rattle.memory.specs.declared.types.Extent.{Extent}
 use Rattle.memory.specs.Held.{Held}
 use Rattle.memory.specs.Pending.{count_pending}
 use Rattle.noticelog.specs.declared.line.Line.{Line}
-use Rattle.noticelog.specs.Start.{Started}
+use Rattle.noticelog.specs.Start.{Begun, Started}
 use Rattle.refusal.specs.declared.fault.Fault.{Fault}
 use Rattle.refusal.specs.Meaning.{values_of}
 
@@ -35,3 +35,7 @@ log_from place e m (bytes ∷ rest) =
 -- the log of the notices in the bytes, upon day 2 of 96 quarter-hours with parties 1 to 8 and no other record
 abbrev pub Logs : List ℕ → List Line → Type 0
 Logs bytes lines = (e : Extent) × (m : Held) × Started 2 96 8 e m × (lines ≡ log_from 1 e m (notices_in 64 bytes))
+
+-- the same, where the first notice meets memory in order that has places for 8 parties, no point and 64 notices
+abbrev pub BegunLogs : List ℕ → List Line → Type 0
+BegunLogs bytes lines = (e : Extent) × (m : Held) × Begun 8 e m × (lines ≡ log_from 1 e m (notices_in 64 bytes))

@@ -1,7 +1,7 @@
 -- What is printed of a log.
 use Rattle.std.specs.Prelude.{◌≡◌, ℕ, List, [], ◌∷◌, ◌++◌, codes, decimal}
 use Rattle.noticelog.specs.declared.line.Line.{Line}
-use Rattle.noticelog.specs.Log.{Logs}
+use Rattle.noticelog.specs.Log.{BegunLogs}
 
 -- place, refusal and pending notices, in decimal, parted by a space
 abbrev pub line_text : Line → List ℕ
@@ -14,4 +14,4 @@ log_text (l ∷ ls) = (line_text l ++ codes "\n") ++ log_text ls
 
 -- the text of the log of the notices in the bytes
 abbrev pub Reports : List ℕ → List ℕ → Type 0
-Reports bytes text = (lines : List Line) × Logs bytes lines × (text ≡ log_text lines)
+Reports bytes text = (lines : List Line) × BegunLogs bytes lines × (text ≡ log_text lines)

@@ -2,7 +2,7 @@
 ghost use Rattle.std.specs.Prelude.{◌≡◌, IfOk};
 ghost use Rattle.day.specs.Days.{open_extent};
 ghost use Rattle.day.specs.Noticing.{noticing};
-ghost use Rattle.noticelog.specs.Log.{Logs, line_of, log_from, notices_in};
+ghost use Rattle.noticelog.specs.Log.{BegunLogs, Logs, line_of, log_from, notices_in};
 ghost use Rattle.store.specs.Stored.{stored};
 
 use crate::line::Line;
@@ -38,7 +38,8 @@ fn take_notice(day: &mut OpenDay, store: &mut Store, place: usize, bytes: &[u8])
 
 // The log of the notices in the bytes, upon day 2 of 96 quarter-hours with parties 1 to 8.
 pub fn log_day(heap: Global, bytes: &[u8]) -> anyhow::Result<Vec<Line>>
-    ensures { IfOk result (λ lines. Logs bytes.now lines.items) }
+    ensures logs { IfOk result (λ lines. Logs bytes.now lines.items) }
+    ensures begun { IfOk result (λ lines. BegunLogs bytes.now lines.items) }
 {
     let Start { mut day, mut store } = Start::new(heap)?;
     let lines = log(heap, &mut day, &mut store, bytes)?;
