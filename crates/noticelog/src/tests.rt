@@ -1,6 +1,9 @@
-// The log of three notices, of none, of a short rest and of more than are read.
+// The log of three notices, of none, of a short rest and of more than are read, and the printed text.
 use crate::line::Line;
 use crate::log::log_day;
+use crate::text::report;
+use notice::{Direction, Notice, Trade};
+use std::alloc::{AllocError, Global};
 use std::test::Fail;
 
 const NOTICES: [u8; 42] = [
@@ -41,5 +44,57 @@ fn what_follows_the_last(rt: HostRuntime) -> Result<(), Fail> {
     let lines = log_day(rt.alloc(), &[0; 900])?;
     assert_eq!(rt; lines.len(), 64);
     assert_eq!(rt; lines.get(63).copied(), line(64, 3, 0));
+    Ok(())
+}
+
+#[test]
+fn the_text_of_three_notices(rt: HostRuntime) -> Result<(), Fail> {
+    assert_eq!(rt;
+        report(rt.alloc(), &NOTICES)?.as_str(),
+        "1 0 1\n2 0 0\n3 2 0\n"
+    );
+    Ok(())
+}
+
+#[test]
+fn the_text_of_nothing_and_of_a_short_rest(rt: HostRuntime) -> Result<(), Fail> {
+    assert_eq!(rt; report(rt.alloc(), &[])?.as_str(), "");
+    assert_eq!(rt;
+        report(rt.alloc(), &NOTICES[0..17])?.as_str(),
+        "1 0 1\n2 1 1\n"
+    );
+    Ok(())
+}
+
+// Lodgings of party 1 to party 8, numbered from 1 to the last.
+fn lodgings(heap: Global, last: u16) -> Result<Vec<u8>, AllocError> {
+    let mut bytes = Vec::new(heap);
+    for before in 0..last {
+        let trade = Trade {
+            number: before + 1,
+            sender: 1,
+            partner: 8,
+            direction: Direction::Sells,
+            first: 1,
+            last: 96,
+            quantity: 1,
+        };
+        let mut form = [0; 14];
+        let _ = Notice::Lodging(trade).fields().write(&mut form);
+        bytes.extend_from_slice(&form)?;
+    }
+    Ok(bytes)
+}
+
+#[test]
+fn room_for_the_last_and_none_read_after_it(rt: HostRuntime) -> Result<(), Fail> {
+    let all = lodgings(rt.alloc(), 64)?;
+    let more = lodgings(rt.alloc(), 65)?;
+    let text = report(rt.alloc(), all.as_slice())?;
+    assert_eq!(rt; text.as_str().ends_with("\n63 0 63\n64 0 64\n"), true);
+    assert_eq!(rt;
+        text.as_str(),
+        report(rt.alloc(), more.as_slice())?.as_str()
+    );
     Ok(())
 }
