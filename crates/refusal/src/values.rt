@@ -1,6 +1,6 @@
 // The four numbers that a refusal is given out as.
 ghost use Rattle.std.specs.Prelude.{◌≡◌};
-ghost use Rattle.refusal.specs.Meaning.{values_of};
+ghost use Rattle.refusal.specs.Meaning.{about, values_of};
 
 use crate::fault::Fault;
 
@@ -13,19 +13,8 @@ struct Values {
     height: u8,
 }
 
-fn plain(number: u8) -> Values
-    ensures { result ≡ record { number = number; subject = 0; quarter = 0; height = 0 } }
-{
-    Values {
-        number,
-        subject: 0,
-        quarter: 0,
-        height: 0,
-    }
-}
-
 fn about(number: u8, subject: u16, quarter: u8, height: u8) -> Values
-    ensures { result ≡ record { number = number; subject = subject; quarter = quarter; height = height } }
+    ensures { result ≡ about number subject quarter height }
 {
     Values {
         number,
@@ -68,24 +57,24 @@ impl Fault {
         ensures { result ≡ values_of self.now }
     {
         match *self {
-            Fault::Length => plain(1),
-            Fault::Check => plain(2),
-            Fault::Kind => plain(3),
+            Fault::Length => about(1, 0, 0, 0),
+            Fault::Check => about(2, 0, 0, 0),
+            Fault::Kind => about(3, 0, 0, 0),
             Fault::QuarterHour { quarter, height } => about(4, 0, quarter, height),
-            Fault::Limit => plain(5),
-            Fault::Number => plain(6),
-            Fault::Day => plain(7),
-            Fault::Sizes => plain(8),
-            Fault::Order => plain(20),
-            Fault::UnknownParty => plain(21),
-            Fault::UnknownPoint => plain(22),
-            Fault::NumberUsed => plain(23),
-            Fault::RegisterFull => plain(24),
-            Fault::NotPending => plain(25),
-            Fault::Mismatch => plain(26),
+            Fault::Limit => about(5, 0, 0, 0),
+            Fault::Number => about(6, 0, 0, 0),
+            Fault::Day => about(7, 0, 0, 0),
+            Fault::Sizes => about(8, 0, 0, 0),
+            Fault::Order => about(20, 0, 0, 0),
+            Fault::UnknownParty => about(21, 0, 0, 0),
+            Fault::UnknownPoint => about(22, 0, 0, 0),
+            Fault::NumberUsed => about(23, 0, 0, 0),
+            Fault::RegisterFull => about(24, 0, 0, 0),
+            Fault::NotPending => about(25, 0, 0, 0),
+            Fault::Mismatch => about(26, 0, 0, 0),
             Fault::ReadingMissing { point, quarter } => about(27, point, quarter, 0),
-            Fault::OtherSheet => plain(28),
-            Fault::AmountLimit => plain(30),
+            Fault::OtherSheet => about(28, 0, 0, 0),
+            Fault::AmountLimit => about(30, 0, 0, 0),
             Fault::SourceMissing {
                 system,
                 quarter,
