@@ -72,7 +72,7 @@ fn the_worked_notice(rt: HostRuntime) {
         quantity: 500,
     };
     assert_eq!(rt; Notice::read(&LODGED, 96), Ok(Notice::Lodging(trade)));
-    assert_eq!(rt; Notice::Withdrawal(trade.mirror()).fields().kind, 3);
+    assert_eq!(rt; Fields::from(Notice::Withdrawal(trade.mirror())).kind, 3);
 }
 
 #[test]

@@ -1,6 +1,6 @@
 // An open day: parties, notices and their refusals in order.
 use day::OpenDay;
-use notice::{Direction, Notice, Trade};
+use notice::{Direction, Fields, Notice, Trade};
 use refusal::Fault;
 use std::alloc::{AllocError, Global};
 use std::test::Fail;
@@ -37,7 +37,7 @@ impl Setup {
     // Sends a notice, and answers the number of its refusal and of the notices that wait.
     fn send(&mut self, notice: Notice) -> (u8, usize) {
         let mut bytes = [0; 14];
-        let _ = notice.fields().write(&mut bytes);
+        let _ = Fields::from(notice).write(&mut bytes);
         let number = match self.store.notice(&mut self.day, &bytes) {
             Ok(()) => 0,
             Err(fault) => fault.number(),

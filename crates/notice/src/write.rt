@@ -1,11 +1,11 @@
 // Writing: the tests of the ten fields, and their form of fourteen bytes.
-ghost use Rattle.std.specs.Prelude.{◌≡◌, ℕ, ◌<◌, Decides, OnOk};
-ghost use Rattle.notice.specs.Form.{bit_of, direction_of, fields_of, notice_of, trade_of, packed, written, layout, listed, filled};
-ghost use Rattle.notice.specs.Lawful.{Lawful, faults, lawful, limits_of};
+ghost use Rattle.std.specs.Prelude.{◌≡◌, [], ◌∷◌, Decides, OnOk};
+ghost use Rattle.notice.specs.Form.{bit_of, direction_of, fields_of, notice_of, stated, trade_of, packed, written, layout, listed, filled};
+ghost use Rattle.notice.specs.Lawful.{Lawful, faults, kindless, lawful, limits_of};
 ghost use Rattle.notice.specs.Packing.{Byte, Fit};
 ghost use Rattle.notice.specs.Promises.{ReadBack, Guarded};
 ghost use Rattle.notice.specs.Reading.{reading};
-ghost use Rattle.refusal.specs.declared.fault.Fault.TheVariants.{Check};
+ghost use Rattle.refusal.specs.declared.fault.Fault.TheVariants.{Kind};
 ghost use Rattle.refusal.specs.Judging.{judged};
 
 use crate::bits::{after, check, octet};
@@ -21,19 +21,21 @@ const MOST_QUARTERS: u8 = 100;
 // The most kWh that a notice may trade in a quarter-hour.
 const MOST_QUANTITY: u32 = 1_000_000;
 
-impl Direction {
-    fn bit(self) -> bool
-        ensures { result ≡ bit_of self }
-    {
-        match self {
+impl From<Direction> for bool {
+    ghost from_gives = { λ d b. b ≡ bit_of d };
+
+    fn from(direction: Direction) -> bool {
+        match direction {
             Direction::Sells => false,
             Direction::Buys => true,
         }
     }
+}
 
-    fn of(buys: bool) -> Direction
-        ensures { result ≡ direction_of buys }
-    {
+impl From<bool> for Direction {
+    ghost from_gives = { λ b d. d ≡ direction_of b };
+
+    fn from(buys: bool) -> Direction {
         if buys {
             Direction::Buys
         } else {
@@ -43,27 +45,75 @@ impl Direction {
 }
 
 impl Notice {
-    // The ten fields of the notice, which mean this very notice.
-    pub fn fields(&self) -> Fields
-        ensures value { result ≡ fields_of self.now }
-        ensures back { notice_of result ≡ self.now }
+    // The trade that the notice states.
+    pub fn trade(&self) -> Trade
+        ensures { result ≡ stated self.now }
     {
-        let (kind, t) = match *self {
-            Notice::Lodging(trade) => (1, trade),
-            Notice::Confirmation(trade) => (2, trade),
-            Notice::Withdrawal(trade) => (3, trade),
+        match *self {
+            Notice::Lodging(trade) | Notice::Confirmation(trade) | Notice::Withdrawal(trade) =>
+                trade,
+        }
+    }
+}
+
+// The ten fields of a notice, which mean this very notice.
+impl From<Notice> for Fields {
+    ghost from_gives = { λ n f. (f ≡ fields_of n) × (notice_of f ≡ n) };
+
+    fn from(notice: Notice) -> Fields {
+        let kind = match notice {
+            Notice::Lodging(_) => 1,
+            Notice::Confirmation(_) => 2,
+            Notice::Withdrawal(_) => 3,
         };
+        let t = notice.trade();
         Fields {
             kind,
             spare: 0,
             number: t.number,
             sender: t.sender,
             partner: t.partner,
-            buys: t.direction.bit(),
+            buys: t.direction.into(),
             first: t.first,
             last: t.last,
             unused: 0,
             quantity: t.quantity,
+        }
+    }
+}
+
+impl From<Fields> for Trade {
+    ghost from_gives = { λ f t. t ≡ trade_of f };
+
+    fn from(fields: Fields) -> Trade {
+        Trade {
+            number: fields.number,
+            sender: fields.sender,
+            partner: fields.partner,
+            direction: fields.buys.into(),
+            first: fields.first,
+            last: fields.last,
+            quantity: fields.quantity,
+        }
+    }
+}
+
+// The notice that the fields mean, whatever trade it states.
+impl TryFrom<Fields> for Notice {
+    type Error = Fault;
+
+    ghost try_from_gives = { λ f r. r ≡ judged ((kindless f, Kind) ∷ []) (notice_of f) };
+
+    fn try_from(fields: Fields) -> Result<Notice, Fault> {
+        if fields.spare > 0 || fields.unused > 0 {
+            return Err(Fault::Kind);
+        }
+        let trade = fields.into();
+        match fields.kind {
+            1 => Ok(Notice::Lodging(trade)),
+            2 => Ok(Notice::Confirmation(trade)),
+            3 => Ok(Notice::Withdrawal(trade)),
+            _ => Err(Fault::Kind),
         }
     }
 }
@@ -111,35 +161,14 @@ impl Trade {
 }
 
 impl Fields {
-    fn trade(&self) -> Trade
-        ensures { result ≡ trade_of self.now }
-    {
-        Trade {
-            number: self.number,
-            sender: self.sender,
-            partner: self.partner,
-            direction: Direction::of(self.buys),
-            first: self.first,
-            last: self.last,
-            quantity: self.quantity,
-        }
-    }
-
     // The notice that the fields mean in a day of so many quarter-hours, or why they are refused.
     pub fn notice(&self, quarters: u8) -> Result<Notice, Fault>
         ensures answer { result ≡ judged (faults quarters self.now) (notice_of self.now) }
         ensures lawful { OnOk result (Lawful quarters (trade_of self.now)) }
     {
-        if self.kind == 0 || self.kind > 3 || self.spare > 0 || self.unused > 0 {
-            return Err(Fault::Kind);
-        }
-        let trade = self.trade();
-        limits(trade, quarters)?;
-        match self.kind {
-            1 => Ok(Notice::Lodging(trade)),
-            2 => Ok(Notice::Confirmation(trade)),
-            _ => Ok(Notice::Withdrawal(trade)),
-        }
+        let notice = Notice::try_from(*self)?;
+        limits(notice.trade(), quarters)?;
+        Ok(notice)
     }
 
     fn pack(&self) -> u128

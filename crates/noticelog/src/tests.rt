@@ -2,7 +2,7 @@
 use crate::line::Line;
 use crate::log::log_day;
 use crate::text::report;
-use notice::{Direction, Notice, Trade};
+use notice::{Direction, Fields, Notice, Trade};
 use std::alloc::{AllocError, Global};
 use std::test::Fail;
 
@@ -80,7 +80,7 @@ fn lodgings(heap: Global, last: u16) -> Result<Vec<u8>, AllocError> {
             quantity: 1,
         };
         let mut form = [0; 14];
-        let _ = Notice::Lodging(trade).fields().write(&mut form);
+        let _ = Fields::from(Notice::Lodging(trade)).write(&mut form);
         bytes.extend_from_slice(&form)?;
     }
     Ok(bytes)
