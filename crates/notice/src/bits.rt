@@ -4,7 +4,9 @@ ghost use Rattle.notice.specs.Packing.{gathered, check_of};
 
 // What stands so far, and after it a value of so many bits.
 pub(crate) fn after(bits: u128, width: u32, value: u128) -> u128
-    requires { (width ≤ 32) × ((bits < 2 ^ 96) × (value < 2 ^ width)) }
+    requires width { width ≤ 32 }
+    requires room { bits < 2 ^ 96 }
+    requires fits { value < 2 ^ width }
     ensures { result ≡ bits * 2 ^ width + value }
 {
     bits << width | value
@@ -12,7 +14,8 @@ pub(crate) fn after(bits: u128, width: u32, value: u128) -> u128
 
 // The value of so many bits that has `low` bits after it.
 pub(crate) fn field(bits: u128, width: u32, low: u32) -> u128
-    requires { (width ≤ 32) × (low < 128) }
+    requires width { width ≤ 32 }
+    requires low { low < 128 }
     ensures { result ≡ bits / 2 ^ low % 2 ^ width }
 {
     bits >> low & ((1 << width) - 1)
@@ -30,12 +33,11 @@ pub(crate) fn check(bytes: &[u8]) -> u16
     requires { length bytes.now ≤ 12 }
     ensures { result ≡ check_of bytes.now }
 {
-    let mut sum: u16 = 0;
-    let mut place: u16 = 1;
-    for b in bytes {
-        sum += place * *b as u16;
-        place += 1;
-    }
+    let sum: u16 = bytes
+        .iter()
+        .enumerate()
+        .map(|(i, b)| (i as u16 + 1) * *b as u16)
+        .sum();
     sum % 257
 }
 
@@ -44,9 +46,5 @@ pub(crate) fn gather(bytes: &[u8]) -> u128
     requires { length bytes.now ≤ 12 }
     ensures { result ≡ gathered 0 bytes.now }
 {
-    let mut bits = 0;
-    for b in bytes {
-        bits = after(bits, 8, *b as u128);
-    }
-    bits
+    bytes.iter().fold(0, |bits, b| bits << 8 | *b as u128)
 }

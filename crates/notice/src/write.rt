@@ -50,8 +50,7 @@ impl Notice {
         ensures { result ≡ stated self.now }
     {
         match *self {
-            Notice::Lodging(trade) | Notice::Confirmation(trade) | Notice::Withdrawal(trade) =>
-                trade,
+            Notice::Lodging(t) | Notice::Confirmation(t) | Notice::Withdrawal(t) => t,
         }
     }
 }

@@ -1,31 +1,40 @@
-use Rattle.std.proofs.Common.{◌≡◌, ℕ, ◌+◌, ◌*◌, ◌<◌, ◌≤◌, get_or, drop, arith}
+use Rattle.std.proofs.Common.{◌≡◌, ℕ, ◌+◌, ◌*◌, ◌%◌, ◌<◌, ◌≤◌, List, [], ◌∷◌, length, map, ap, ◌∙◌, add_assoc, arith, rules}
+use Rattle.std.proofs.ByRecursion.{All-from_get_or}
+use Rattle.std.proofs.lemmas.Iterator.{YieldsList-from_slice, YieldsList-from_map}
+use Rattle.std.proofs.lemmas.Iterator.Consumers.{YieldsList-from_enumerate, YieldsList-at, sum_from_yields_List, fits_from_yields_list}
 use Rattle.std.proofs.lemmas.Nat.{mul-le}
-use Rattle.std.proofs.lemmas.List.{at_drop_more, at_drop_all}
-use Rattle.notice.specs.Packing.{weighted}
+use Rattle.std.specs.List.{AllByRecursion, enumerate_from, fold, sum}
+use Rattle.notice.specs.Packing.{Byte, weighted}
 use Rattle.notice.proofs.bits.check.Goals as goal
 
--- a byte times its place
-term : (p b : ℕ) → p ≤ 12 → b < 256 → p * b ≤ 3060
-term p b h k = mul-le p b 12 255 h (omega arith)
+-- each byte times its place
+abbrev terms : ℕ → List ℕ → List ℕ
+terms i xs = map (λ (p : ℕ × ℕ). (p.0 + 1) * p.1) (enumerate_from i xs)
 
-pub overflow_mul-sum : goal.overflow_mul-sum
-overflow_mul-sum c = record { fits = omega (arith, term c.loop-b.place (get_or c.args.bytes.now c.loop-b.b-index 0) (omega arith) (omega arith)) }
+summed : (a i : ℕ) (xs : List ℕ) → fold ◌+◌ a (terms i xs) ≡ a + weighted (i + 1) xs
+summed a i [] = omega arith
+summed a i (x ∷ xs) = summed (a + (i + 1) * x) (i + 1) xs ∙ add_assoc _ _ _
 
-pub overflow_add-sum : goal.overflow_add-sum
-overflow_add-sum c = record { fits = omega (arith, term c.loop-b.place (get_or c.args.bytes.now c.loop-b.b-index 0) (omega arith) (omega arith)) }
+bounded : (i : ℕ) (xs : List ℕ) → i + length xs ≤ 13 → AllByRecursion Byte xs → weighted i xs ≤ 3060 * length xs
+bounded i [] l h = omega arith
+bounded i (x ∷ xs) l h = omega (arith, mul-le i x 12 255 (omega arith) (omega arith), bounded (i + 1) xs (omega arith) h.1)
 
-pub loop-b-preserved : goal.loop-b-preserved
-loop-b-preserved c =
-    let l = c.loop-b in
+pub sum-sum-requires-clause-fits : goal.sum-sum-requires-clause-fits
+sum-sum-requires-clause-fits c =
     let bs = c.args.bytes.now in
-    let e : weighted l.place (drop l.b-index bs) ≡
-    l.place * get_or bs l.b-index 0 + weighted (l.place + 1) (drop (l.b-index + 1) bs)
-    = at_drop_more (weighted l.place) bs l.b-index 0 c.loop-b-test.true in
-    (omega arith, omega (arith, term l.place (get_or bs l.b-index 0) (omega arith) (omega arith)), omega arith)
+    let bytes = All-from_get_or Byte bs 0 (λ i _. (c.type_inv.bytes i).fits) in
+    let small : sum (terms 0 bs) < 65536 = omega (arith, summed 0 0 bs, bounded 1 bs (omega arith) bytes) in
+    let items = YieldsList-at c.enumerate.ensures.source (YieldsList-from_slice bs c.iter.ensures.rest) in
+    let numbered = YieldsList-at c.map.ensures.source (YieldsList-from_enumerate items c.enumerate.ensures.count) in
+    fits_from_yields_list c.map.result 65536 (YieldsList-from_map _ _ numbered c.map.ensures.closure (λ x r q k. search rules)) small
 
 pub returns : goal.returns
 returns c =
-    let l = c.loop-b in
-    let e : weighted l.place (drop l.b-index c.args.bytes.now) ≡ 0
-    = at_drop_all (weighted l.place) c.args.bytes.now l.b-index c.loop-b-test.false in
-    omega arith
+    let bs = c.args.bytes.now in
+    let items = YieldsList-at c.enumerate.ensures.source (YieldsList-from_slice bs c.iter.ensures.rest) in
+    let numbered = YieldsList-at c.map.ensures.source (YieldsList-from_enumerate items c.enumerate.ensures.count) in
+    let e : c.sum-sum.result ≡ sum (terms 0 bs) =
+    sum_from_yields_List c.map.result c.sum-sum.result c.sum-sum.ensures.ran
+    (YieldsList-from_map _ _ numbered c.map.ensures.closure (λ x r q k. search rules)) in
+    let all : c.sum-sum.result ≡ weighted 1 bs = omega (arith, summed 0 0 bs) in
+    ap (λ n. n % 257) all
