@@ -21,13 +21,6 @@ pub(crate) fn field(bits: u128, width: u32, low: u32) -> u128
     bits >> low & ((1 << width) - 1)
 }
 
-pub(crate) fn octet(bits: u128, low: u32) -> u8
-    requires { low < 128 }
-    ensures { result ≡ bits / 2 ^ low % 2 ^ 8 }
-{
-    field(bits, 8, low) as u8
-}
-
 // The check of up to 12 bytes: each times its place from 1, summed, modulo 257.
 pub(crate) fn check(bytes: &[u8]) -> u16
     requires { length bytes.now ≤ 12 }

@@ -37,10 +37,10 @@ fn parse(bytes: &[u8]) -> Result<Fields, Fault>
     if bytes.len() != 14 {
         return Err(Fault::Length);
     }
-    if check(&bytes[0..CHECKED]) as u128 != gather(&bytes[12..14]) {
+    if check(&bytes[..CHECKED]) != u16::from_be_bytes([bytes[12], bytes[13]]) {
         return Err(Fault::Check);
     }
-    Ok(unpack(gather(&bytes[0..12])))
+    Ok(unpack(gather(&bytes[..12])))
 }
 
 impl Fields {

@@ -8,7 +8,7 @@ ghost use Rattle.notice.specs.Reading.{reading};
 ghost use Rattle.refusal.specs.declared.fault.Fault.TheVariants.{Kind};
 ghost use Rattle.refusal.specs.Judging.{judged};
 
-use crate::bits::{after, check, octet};
+use crate::bits::{after, check};
 use crate::types::*;
 use refusal::Fault;
 
@@ -194,26 +194,9 @@ impl Fields {
         ensures guarded { OnOk result (Guarded out.new) }
     {
         self.notice(MOST_QUARTERS)?;
-        let bits = self.pack();
-        *out = [
-            octet(bits, 88),
-            octet(bits, 80),
-            octet(bits, 72),
-            octet(bits, 64),
-            octet(bits, 56),
-            octet(bits, 48),
-            octet(bits, 40),
-            octet(bits, 32),
-            octet(bits, 24),
-            octet(bits, 16),
-            octet(bits, 8),
-            octet(bits, 0),
-            0,
-            0,
-        ];
-        let sum = check(&out[0..CHECKED]) as u128;
-        out[12] = octet(sum, 8);
-        out[13] = octet(sum, 0);
+        out[..12].copy_from_slice(&self.pack().to_be_bytes()[4..]);
+        let sum = check(&out[..CHECKED]);
+        out[12..].copy_from_slice(&sum.to_be_bytes());
         Ok(())
     }
 }

@@ -1,36 +1,53 @@
-use Rattle.std.proofs.Common.{◌≡◌, ℕ, false, List, [], sym, ◌∙◌, subst, rules}
-use Rattle.notice.specs.declared.types.Fields.{Fields}
-use Rattle.notice.specs.Packing.{Fit}
+use Rattle.std.proofs.Common.{◌≡◌, ℕ, ◌/◌, List, ◌++◌, drop, take, length, [], append-nil, sym, refl, ap, ◌∙◌, subst, arith}
+use Rattle.std.specs.Int.{to_be_bytes, w16, w128}
+use Rattle.std.proofs.lemmas.List.{drop_all, drop_at, length-drop, take_at}
+use Rattle.std.proofs.lemmas.Result.{err_from_is_err_and}
+use borrow.Rule.Slice.PartMut.{put_mid}
+use Rattle.notice.specs.Form.{checked, notice_of, packed}
+use Rattle.notice.specs.Lawful.{faults}
+use Rattle.notice.specs.Packing.{check_of, split, twelve, two}
 use Rattle.notice.specs.Promises.{ReadBack, Guarded}
 use Rattle.notice.proofs.Changed.{guarded}
 use Rattle.notice.proofs.Undone.{fits, read_back}
 use Rattle.notice.proofs.types.Fields.write.Goals as goal
-use Rattle.notice.specs.Form.{layout, listed, notice_of, written}
-use Rattle.notice.specs.Lawful.{faults, kindless}
 use Rattle.refusal.proofs.Judging.{passed, judged_then, judged_fault}
-use Rattle.std.proofs.lemmas.Result.{err_from_is_err_and}
 
--- bytes that are the form of lawful fields
-formed : (f : Fields) (out : List ℕ) → out ≡ written f → Fit layout (listed f) → kindless f ≡ false → ReadBack f out × Guarded out
-formed f out e fit k = (subst (λ x. ReadBack f x) (sym e) (read_back f fit k), subst Guarded (sym e) (guarded f))
+-- the last bytes of a number, and the two of a check
+octets : (n : ℕ) → take 12 (drop 4 (to_be_bytes w128 n)) ≡ split twelve n
+octets n = let e : n / 1 ≡ n = omega arith in rw e
 
-pub returns-in_err-notice : goal.returns-in_err-notice
-returns-in_err-notice c =
+pair : (n : ℕ) → to_be_bytes w16 n ≡ split two n
+pair n = let e : n / 1 ≡ n = omega arith in rw e
+
+-- twelve bytes, and two after them that are overwritten
+laid : (xs rest ys : List ℕ) → length xs ≡ 12 → length rest ≡ 2 → put_mid 12 2 (xs ++ rest) ys ≡ xs ++ ys
+laid xs rest ys l m = rw (take_at xs rest 12 l, drop_at xs rest 12 l, drop_all 2 rest (omega arith), append-nil)
+
+-- what two writes leave
+formed : (n s : ℕ) (front rest ys : List ℕ) → front ≡ take 12 (drop 4 (to_be_bytes w128 n)) → length rest ≡ 2 →
+    s ≡ check_of (take 12 (front ++ rest)) → ys ≡ to_be_bytes w16 s → put_mid 12 2 (front ++ rest) ys ≡ checked (split twelve n)
+formed n s front rest ys e l f g =
+    let front-is : front ≡ split twelve n = e ∙ octets n in
+    let sum : s ≡ check_of (split twelve n) = f ∙ ap (λ x. check_of (take 12 (x ++ rest))) front-is in
+    rw front-is (laid (split twelve n) rest ys refl l ∙ ap (λ zs. split twelve n ++ zs) (g ∙ ap (to_be_bytes w16) sum ∙ pair _))
+
+pub returns-in_err-notice-clause-answer : goal.returns-in_err-notice-clause-answer
+returns-in_err-notice-clause-answer c =
     let p = err_from_is_err_and c.from_residual.result c.from_residual.ensures.1 in
     let f = c.args.self.now in
-    let e = sym (judged_fault (faults 100 f) [] (notice_of f) tt _ (sym c.in_err-notice.ensures.answer)) in
-    rw (p.1, p.2) (record { answer = e; bytes = search rules; back = tt; guarded = tt })
-
-pub pack-bits-requires : goal.pack-bits-requires
-pack-bits-requires c =
-    let f = c.args.self.now in
-    let p = passed (notice_of f) _ (faults 100 f) (sym c.notice.ensures.answer ∙ c.in_ok-notice.was) in
-    fits f p.0 c.in_ok-notice.ensures.lawful
+    rw (p.1, p.2) (sym (judged_fault (faults 100 f) [] (notice_of f) tt _ (sym c.in_err-notice.ensures.answer)))
 
 pub returns : goal.returns
 returns c =
     let f = c.args.self.now in
     let granted = sym c.notice.ensures.answer ∙ c.in_ok-notice.was in
     let p = passed (notice_of f) _ (faults 100 f) granted in
-    let laws = formed f _ (cc) (fits f p.0 c.in_ok-notice.ensures.lawful) p.0 in
-    record { answer = sym (judged_then (faults 100 f) [] (notice_of f) _ tt granted); bytes = cc; back = laws.0; guarded = laws.1 }
+    let front = c.copy_from_slice.ensures.after ∙ ap (λ bs. take 12 (drop 4 bs)) (c.to_be_bytes.ensures ∙ ap (to_be_bytes w128) c.pack.ensures) in
+    let e = formed (packed f) c.check-sum.result _ (drop 12 c.args.out.now) _ front (simp length-drop (omega arith)) c.check-sum.ensures
+    (c.copy_from_slice-2.ensures.after ∙ c.to_be_bytes-2.ensures) in
+    record {
+      answer = sym (judged_then (faults 100 f) [] (notice_of f) _ tt granted);
+      bytes = e;
+      back = subst (ReadBack f) (sym e) (read_back f (fits f p.0 c.in_ok-notice.ensures.lawful) p.0);
+      guarded = subst Guarded (sym e) (guarded f);
+    }
