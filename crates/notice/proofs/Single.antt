@@ -1,26 +1,21 @@
 -- A notice has one written form: what is read is lawful, and the bytes are the form of its fields.
-use Rattle.std.proofs.Common.{◌≡◌, ℕ, suc, ◌/◌, ◌%◌, ◌^◌, ◌<◌, ◌≤◌, false, cond, eqb, List, [], ◌∷◌, ◌++◌, length, get_or, take, drop, replicate, Ok, Decides, sym, refl, ap, ◌∙◌, subst, arith, w8, Fits}
+use Rattle.std.proofs.Common.{◌≡◌, ℕ, ◌/◌, ◌%◌, ◌^◌, ◌<◌, ◌≤◌, false, cond, eqb, List, [], ◌∷◌, ◌++◌, length, take, drop, replicate, Ok, Decides, sym, refl, ap, ◌∙◌, subst, arith}
 use Rattle.notice.proofs.Packed.{join_high, split_join, join_whole}
 use Rattle.notice.specs.declared.types.Fields.{Fields}
 use Rattle.notice.specs.declared.types.Notice.{Notice}
 use Rattle.notice.specs.declared.types.Trade.{Trade}
 use Rattle.notice.specs.Form.{layout, listed, fields_from, packed, checked, written, notice_of, fields_of, trade_of, stated}
-use Rattle.notice.specs.Lawful.{Lawful, lawful, limits_of, kindless}
+use Rattle.notice.specs.Lawful.{Lawful, faults, lawful, limits_of, kindless}
 use Rattle.notice.specs.Packing.{Fit, Byte, total, join, split, eights, gathered, twelve, two, check_of}
 use Rattle.notice.specs.Promises.{OneForm}
-use Rattle.notice.specs.Reading.{all_faults, held_fields, reading}
-use Rattle.refusal.proofs.Judging.{Passed, passed, passed_ok, passed_value}
+use Rattle.notice.specs.Reading.{all_faults, byte_faults, held_fields, reading}
+use Rattle.refusal.proofs.Judging.{Passed, passed, passed_ok, passed_value, judged_then}
 use Rattle.refusal.specs.Judging.{judged}
 use Rattle.std.proofs.ByRecursion.{All-from_get_or, All-take, All-drop}
 use Rattle.std.proofs.lemmas.List.{length-take, length-drop, take_all, take-append-drop}
 use Rattle.std.proofs.lemmas.Bool.{and_parts, eqb-true, leb-true, not-false}
 use Rattle.std.proofs.lemmas.Bool.Decides.{nat_tests}
 use Rattle.std.specs.List.{AllByRecursion}
-
--- the numbers of a slice of bytes are bytes
-pub all_bytes : (xs : List ℕ) → ((i : ℕ) → Fits w8 (get_or xs i 0)) → AllByRecursion Byte xs
-all_bytes [] h = tt
-all_bytes (x ∷ xs) h = ((h 0).fits, all_bytes xs (λ i. h (suc i)))
 
 -- a trade that meets no fault is lawful
 pub lawful_from : (quarters : ℕ) (t : Trade) → t.number ≤ 65535 → t.sender ≤ 65535 → t.partner ≤ 65535 → Passed (limits_of quarters t) → Lawful quarters t
@@ -33,9 +28,6 @@ lawful_from quarters t h k m p = record {
   last = grind (arith, nat_tests);
   quantity = grind (arith, nat_tests);
 }
-
-pub passes_limits : (quarters : ℕ) (t : Trade) → Lawful quarters t → judged {A = Unit {0}} (limits_of quarters t) tt ≡ Ok tt
-passes_limits quarters t l = grind (arith, nat_tests)
 
 pub decides_lawful : (quarters : ℕ) (t : Trade) → Decides (lawful quarters t) (Lawful quarters t)
 unfolding lawful
@@ -86,8 +78,15 @@ closed m xs ys d e f = ap checked d ∙ ap (λ zs. xs ++ zs) (ap (split two) f �
 cut : (bs : List ℕ) → length bs ≡ 14 → take 12 bs ++ take 2 (drop 12 bs) ≡ bs
 cut bs long = let l : length (drop 12 bs) ≤ 2 = simp length-drop (omega arith) in rw (take_all 2 (drop 12 bs) l) (take-append-drop 12 bs)
 
-states : (f : Fields) → stated (notice_of f) ≡ trade_of f
+pub states : (f : Fields) → stated (notice_of f) ≡ trade_of f
 states f = grind (arith, nat_tests)
+
+-- bytes that hold fields are read as these are judged
+pub parsed : {A : Type 0} (g : Fields → A) (q : ℕ) (bs : List ℕ) (f : Fields) → judged (byte_faults bs) (held_fields bs) ≡ Ok f →
+    judged (all_faults q bs) (g (held_fields bs)) ≡ judged (faults q f) (g f)
+parsed g q bs f e =
+    judged_then (byte_faults bs) (faults q (held_fields bs)) (held_fields bs) f (g (held_fields bs)) e ∙
+    ap (λ x. judged (faults q x) (g x)) (passed_value (held_fields bs) f (byte_faults bs) e)
 
 -- what is read is lawful
 pub read_lawful : (q : ℕ) (bs : List ℕ) (n : Notice) → reading q bs ≡ Ok n → Lawful q (stated n)

@@ -24,9 +24,9 @@ laid : (xs rest ys : List ℕ) → length xs ≡ 12 → length rest ≡ 2 → pu
 laid xs rest ys l m = rw (take_at xs rest 12 l, drop_at xs rest 12 l, drop_all 2 rest (omega arith), append-nil)
 
 -- what two writes leave
-formed : (n s : ℕ) (front rest ys : List ℕ) → front ≡ take 12 (drop 4 (to_be_bytes w128 n)) → length rest ≡ 2 →
-    s ≡ check_of (take 12 (front ++ rest)) → ys ≡ to_be_bytes w16 s → put_mid 12 2 (front ++ rest) ys ≡ checked (split twelve n)
-formed n s front rest ys e l f g =
+formed : (n s : ℕ) (front rest ys : List ℕ) → front ≡ take 12 (drop 4 (to_be_bytes w128 n)) →
+    s ≡ check_of (take 12 (front ++ rest)) → ys ≡ to_be_bytes w16 s → length rest ≡ 2 → put_mid 12 2 (front ++ rest) ys ≡ checked (split twelve n)
+formed n s front rest ys e f g l =
     let front-is : front ≡ split twelve n = e ∙ octets n in
     let sum : s ≡ check_of (split twelve n) = f ∙ ap (λ x. check_of (take 12 (x ++ rest))) front-is in
     rw front-is (laid (split twelve n) rest ys refl l ∙ ap (λ zs. split twelve n ++ zs) (g ∙ ap (to_be_bytes w16) sum ∙ pair _))
@@ -43,8 +43,8 @@ returns c =
     let granted = sym c.notice.ensures.answer ∙ c.in_ok-notice.was in
     let p = passed (notice_of f) _ (faults 100 f) granted in
     let front = c.copy_from_slice.ensures.after ∙ ap (λ bs. take 12 (drop 4 bs)) (c.to_be_bytes.ensures ∙ ap (to_be_bytes w128) c.pack.ensures) in
-    let e = formed (packed f) c.check-sum.result _ (drop 12 c.args.out.now) _ front (simp length-drop (omega arith)) c.check-sum.ensures
-    (c.copy_from_slice-2.ensures.after ∙ c.to_be_bytes-2.ensures) in
+    let e = formed (packed f) _ _ _ _ front c.check-sum.ensures
+    (c.copy_from_slice-2.ensures.after ∙ c.to_be_bytes-2.ensures) (simp length-drop (omega arith)) in
     record {
       answer = sym (judged_then (faults 100 f) [] (notice_of f) _ tt granted);
       bytes = e;
