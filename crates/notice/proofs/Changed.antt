@@ -1,8 +1,8 @@
 -- A written notice with one byte changed has a wrong check.
-use Rattle.std.proofs.Common.{◌≡◌, ℕ, zero, suc, ◌+◌, ◌-◌, ◌*◌, ◌/◌, ◌%◌, ◌^◌, ◌<◌, Bool, true, not, ◌&&◌, eqb, List, [], ◌∷◌, ◌++◌, length, get_or, take, drop, set, replicate, Err, sym, refl, ap, ◌∙◌, inl, inr, le_of_suc-le-suc, not-suc-le-zero, add-zero, mul_assoc, add-mul, mul-add, mul_left_comm, one-add, arith}
+use Rattle.std.proofs.Common.{◌≡◌, ℕ, zero, suc, ◌+◌, ◌-◌, ◌*◌, ◌/◌, ◌%◌, ◌^◌, ◌<◌, Bool, true, ◌&&◌, eqb, List, [], ◌∷◌, ◌++◌, length, get_or, take, drop, set, replicate, Err, sym, refl, ap, ◌∙◌, inl, inr, le_of_suc-le-suc, mul_assoc, add-mul, mul-add, mul_left_comm, one-add, arith}
 use Rattle.std.specs.List.{AllByRecursion}
-use Rattle.std.proofs.lemmas.Bool.{cases_lt, cond-true, cond-false, eqb-true, eq-eqb, ne_eqb}
-use Rattle.std.proofs.lemmas.Bool.Decides.{Decides-below_and}
+use Rattle.std.proofs.lemmas.Bool.{cases_lt, eqb-true}
+use Rattle.std.proofs.lemmas.Bool.Decides.{Decides-below_and, nat_tests}
 use Rattle.std.proofs.ByRecursion.{All-get_or, All-set}
 use Rattle.std.proofs.lemmas.List.{length-append, length-set, take_at, drop_at, take_all, set-append_left, set-append_right, get_or_append_left, get_or-append_right, get_or-set_same}
 use Rattle.refusal.specs.declared.fault.Fault.TheVariants.{Check}
@@ -17,10 +17,9 @@ use Rattle.notice.proofs.Single.{spelled}
 -- what one byte changes in the sum
 weighted_set : (j : ℕ) (xs : List ℕ) (i b : ℕ) → i < length xs →
     weighted j (set xs i b) + (j + i) * get_or xs i 0 ≡ weighted j xs + (j + i) * b
-weighted_set j [] i b h = absurd (not-suc-le-zero h)
-weighted_set j (x ∷ xs) zero b h = rw add-zero (omega arith)
-weighted_set j (x ∷ xs) (suc i) b h =
-    let e : j + suc i ≡ j + 1 + i = omega arith in rw e (omega (arith, weighted_set (j + 1) xs i b (le_of_suc-le-suc h)))
+weighted_set j [] i b h = omega arith
+weighted_set j (x ∷ xs) zero b h = omega arith
+weighted_set j (x ∷ xs) (suc i) b h = omega (arith, weighted_set (j + 1) xs i b (le_of_suc-le-suc h))
 
 apart : (p s x b : ℕ) → x < 256 → b < 256 → 257 * p + x ≡ 257 * s + b → x ≡ b
 apart p s x b h k e = omega arith
@@ -58,9 +57,7 @@ told i v w x b l =
 
 -- fourteen bytes that are not their check are refused
 differs : (q : ℕ) (bs : List ℕ) → length bs ≡ 14 → (check_of (take 12 bs) ≡ gathered 0 (take 2 (drop 12 bs)) → ⊥) → Err Check ≡ reading q bs
-differs q bs long ne =
-    sym (cond-false _ _ _ (ap not (eq-eqb (length bs) 14 long)) ∙
-    cond-true _ _ _ (ap not (ne_eqb (check_of (take 12 bs)) (gathered 0 (take 2 (drop 12 bs))) ne)))
+differs q bs long ne = grind (arith, nat_tests)
 
 module _ (q : ℕ) (xs ys : List ℕ) (long : length xs ≡ 12) (short : length ys ≡ 2) where
   -- bytes that are not their check are refused

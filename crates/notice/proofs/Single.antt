@@ -19,15 +19,7 @@ use Rattle.std.specs.List.{AllByRecursion}
 
 -- a trade that meets no fault is lawful
 pub lawful_from : (quarters : ℕ) (t : Trade) → t.number ≤ 65535 → t.sender ≤ 65535 → t.partner ≤ 65535 → Passed (limits_of quarters t) → Lawful quarters t
-lawful_from quarters t h k m p = record {
-  number = grind (arith, nat_tests);
-  sender = grind (arith, nat_tests);
-  partner = grind (arith, nat_tests);
-  apart = λ x. grind (arith, nat_tests);
-  first = grind (arith, nat_tests);
-  last = grind (arith, nat_tests);
-  quantity = grind (arith, nat_tests);
-}
+lawful_from quarters t h k m p = grind (arith, nat_tests)
 
 pub decides_lawful : (quarters : ℕ) (t : Trade) → Decides (lawful quarters t) (Lawful quarters t)
 unfolding lawful

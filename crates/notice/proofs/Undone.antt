@@ -1,5 +1,5 @@
 -- Reading undoes writing.
-use Rattle.std.proofs.Common.{◌≡◌, ℕ, ◌<◌, Bool, true, false, cond, not, eqb, Ok, sym, refl, ap, ◌∙◌, arith}
+use Rattle.std.proofs.Common.{◌≡◌, ℕ, false, not, Ok, sym, refl, ap, ◌∙◌, arith}
 use Rattle.notice.proofs.Packed.{join_high, split_join, join_whole}
 use Rattle.notice.specs.declared.types.Fields.{Fields}
 use Rattle.notice.specs.Form.{layout, listed, fields_from, packed, checked, written, notice_of, trade_of}
@@ -12,22 +12,14 @@ use Rattle.refusal.specs.Judging.{judged}
 use Rattle.std.proofs.lemmas.Bool.{eq-eqb}
 use Rattle.std.proofs.lemmas.Bool.Decides.{nat_tests}
 
-bit_below : (b : Bool) → cond b 1 0 < 2
-bit_below true = omega arith
-bit_below false = omega arith
-
-bit_back : (b : Bool) → eqb (cond b 1 0) 1 ≡ b
-bit_back true = refl
-bit_back false = refl
-
 -- the listed fields give them back
 listed_back : (f : Fields) → fields_from (listed f) ≡ f
-listed_back f = rw (bit_back f.buys)
+listed_back f = grind (arith, nat_tests)
 
 module _ (f : Fields) where
   -- lawful fields have room in their widths
   pub fits : kindless f ≡ false → Lawful 100 (trade_of f) → Fit layout (listed f)
-  fits k l = let b = bit_below f.buys in (grind (arith, nat_tests), (grind (arith, nat_tests), (omega arith, (omega arith, (omega arith, (b, (omega arith, (omega arith, (grind (arith, nat_tests), (omega arith, tt))))))))))
+  fits k l = grind (arith, nat_tests)
 
   -- and meet no fault
   pub passes : {A : Type 0} (quarters : ℕ) (a : A) → kindless f ≡ false → Lawful quarters (trade_of f) → judged (faults quarters f) a ≡ Ok a
