@@ -1,5 +1,5 @@
 // Writing: the tests of the ten fields, and their form of fourteen bytes.
-ghost use Rattle.std.specs.Prelude.{◌≡◌, [], ◌∷◌, Decides, OnOk};
+ghost use Rattle.std.specs.Prelude.{◌≡◌, ◌↔◌, [], ◌∷◌, IsTrue, OnOk};
 ghost use Rattle.notice.specs.Form.{bit_of, direction_of, fields_of, notice_of, stated, trade_of, packed, written, layout, listed, filled};
 ghost use Rattle.notice.specs.Lawful.{Lawful, faults, kindless, lawful, limits_of};
 ghost use Rattle.notice.specs.Packing.{Byte, Fit};
@@ -153,7 +153,7 @@ impl Trade {
     // Whether the trade is lawful in a day of so many quarter-hours.
     pub fn is_lawful(self, quarters: u8) -> bool
         ensures test { result ≡ lawful quarters self }
-        ensures meaning { Decides result (Lawful quarters self) }
+        ensures meaning { IsTrue result ↔ Lawful quarters self }
     {
         limits(self, quarters).is_ok()
     }
