@@ -2,9 +2,8 @@
 ghost use Rattle.std.specs.Prelude.{◌≡◌, ◌↔◌, [], ◌∷◌, IsTrue, OnOk};
 ghost use Rattle.notice.specs.Form.{bit_of, direction_of, fields_of, notice_of, stated, trade_of, packed, written, layout, listed, filled};
 ghost use Rattle.notice.specs.Lawful.{Lawful, faults, kindless, lawful, limits_of};
-ghost use Rattle.notice.specs.Packing.{Byte, Fit};
+ghost use Rattle.notice.specs.Packing.{Fit};
 ghost use Rattle.notice.specs.Promises.{ReadBack, Guarded};
-ghost use Rattle.notice.specs.Reading.{reading};
 ghost use Rattle.refusal.specs.declared.fault.Fault.TheVariants.{Kind};
 ghost use Rattle.refusal.specs.Judging.{judged};
 
