@@ -42,9 +42,7 @@ returns c =
     let f = c.args.self.now in
     let granted = sym c.notice.ensures.answer ∙ c.in_ok-notice.was in
     let p = passed (notice_of f) _ (faults 100 f) granted in
-    let front = c.copy_from_slice.ensures.after ∙ ap (λ bs. take 12 (drop 4 bs)) (c.to_be_bytes.ensures ∙ ap (to_be_bytes w128) c.pack.ensures) in
-    let e = formed (packed f) _ _ _ _ front c.check-sum.ensures
-    (c.copy_from_slice-2.ensures.after ∙ c.to_be_bytes-2.ensures) (simp length-drop (omega arith)) in
+    let e = formed (packed f) c.check-sum.result c.copy_from_slice.new.self (drop 12 c.args.out.now) c.copy_from_slice-2.new.self (cc) (cc) (cc) (simp length-drop (omega arith)) in
     record {
       answer = sym (judged_then (faults 100 f) [] (notice_of f) _ tt granted);
       bytes = e;
