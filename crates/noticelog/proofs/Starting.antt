@@ -21,26 +21,6 @@ use Rattle.store.specs.Stored.{blank}
 pub numbered_none : (e : Extent) (m : Held) → e.parties ≡ 0 → NumberedParties e 0 e m
 numbered_none e m none = record { day = refl; points = refl; notices = refl; parties = none; numbers = λ i l. absurd (omega arith) }
 
-pub numbered_more : (before e e' : Extent) (m m' : Held) (k : ℕ) → NumberedParties before k e m →
-    entering_party e m (k + 1) ≡ record { answer = Ok tt; extent = e'; memory = m' } → NumberedParties before (k + 1) e' m'
-numbered_more before e e' m m' k old is =
-    let g = party_entered e m (k + 1) in
-    let r = granted_back e m (entering_faults e m (k + 1)) g (record { answer = Ok tt; extent = e'; memory = m' }) is refl in
-    let at = e.parties in
-    let room : at < length m.parties = leb-false _ _ r.0.1.1.1.1.0 in
-    let x : Party = record { number = k + 1 } in
-    let new = λ (i : ℕ). ap (λ (h : Held). party_number h i) r.2 in
-    record {
-      day = ap (λ (d : Extent). d.day) r.1 ∙ old.day;
-      points = ap (λ (d : Extent). d.points) r.1 ∙ old.points;
-      notices = ap (λ (d : Extent). d.notices) r.1 ∙ old.notices;
-      parties = ap (λ (d : Extent). d.parties) r.1 ∙ ap (λ n. n + 1) old.parties;
-      numbers =
-          below_more _ k
-          (λ i l. new i ∙ ap (λ (p : Party). p.number) (pushed_below m.parties at x no_party i (omega (arith, old.parties))) ∙ old.numbers i l)
-          (new k ∙ ap (λ n. party_number g.memory n) (sym old.parties) ∙ ap (λ (p : Party). p.number) (get_or-set_same m.parties at x no_party room));
-    }
-
 no_numbers : (f : ℕ → ℕ) (n : ℕ) → n ≡ 0 → Distinct f n
 unfolding Distinct
 no_numbers f n none k l = absurd (omega arith)
@@ -138,9 +118,17 @@ module _ (k : ℕ) (e : Extent) (m : Held) (old : Begun k e m) (few : k < 8) whe
         in_order = kept.1;
       }
 
-  pub begun_more : (r : Result (Unit {0}) Fault) (e' : Extent) (m' : Held) → entering_party e m (k + 1) ≡ record { answer = r; extent = e'; memory = m' } → (r ≡ Ok tt) × Begun (k + 1) e' m'
-  begun_more r e' m' is =
-      let same : record { answer = Ok tt; extent = (party_entered e m (k + 1)).extent; memory = (party_entered e m (k + 1)).memory } ≡ record { answer = r; extent = e'; memory = m' } = sym entry ∙ is in (
-        ap (λ (o : Outcome). o.answer) (sym same),
-        subst (λ (o : Outcome). Begun (k + 1) o.extent o.memory) same begun_here,
+  numbered_here : (before : Extent) → NumberedParties before k e m → NumberedParties before (k + 1) (party_entered e m (k + 1)).extent (party_entered e m (k + 1)).memory
+  numbered_here before was = record { day = was.day; points = was.points; notices = was.notices; parties = begun_here.parties; numbers = begun_here.numbers }
+
+  -- the entry of the number after the last, whatever outcome it has
+  pub next_entered : (before : Extent) → NumberedParties before k e m → (number last : ℕ) → number ≡ k + 1 → last ≡ k + 1 → (o : Outcome) → entering_party e m number ≡ o →
+      (o.answer ≡ Ok tt) × NumberedParties before last o.extent o.memory × Begun last o.extent o.memory
+  next_entered before was number last next after o is =
+      let g = party_entered e m (k + 1) in
+      let same : record { answer = Ok tt; extent = g.extent; memory = g.memory } ≡ o = sym entry ∙ ap (entering_party e m) (sym next) ∙ is in
+      subst (λ (p : Outcome). (p.answer ≡ Ok tt) × NumberedParties before last p.extent p.memory × Begun last p.extent p.memory) same (
+        refl,
+        subst (λ n. NumberedParties before n g.extent g.memory) (sym after) (numbered_here before was),
+        subst (λ n. Begun n g.extent g.memory) (sym after) begun_here,
       )

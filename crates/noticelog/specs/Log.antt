@@ -17,7 +17,7 @@ refusal_number (Err f) = (values_of f).number
 
 -- what became of the notice in a place
 abbrev pub line_of : ℕ → Outcome → Line
-line_of place o = record { place = place; refusal = refusal_number o.answer; pending = count_pending o.extent.notices o.memory.notices }
+line_of place o = record { place = place; answer = o.answer; pending = count_pending o.extent.notices o.memory.notices }
 
 -- the notices in a row of bytes, at most so many: fourteen bytes each, and a short rest counts as one
 abbrev pub notices_in : ℕ → List ℕ → List (List ℕ)

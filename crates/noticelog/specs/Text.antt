@@ -1,11 +1,11 @@
 -- What is printed of a log.
 use Rattle.std.specs.Prelude.{◌≡◌, ℕ, List, [], ◌∷◌, ◌++◌, codes, decimal}
 use Rattle.noticelog.specs.declared.line.Line.{Line}
-use Rattle.noticelog.specs.Log.{BegunLogs}
+use Rattle.noticelog.specs.Log.{BegunLogs, refusal_number}
 
--- place, refusal and pending notices, in decimal, parted by a space
+-- place, refusal's number or 0, and pending notices, in decimal, parted by a space
 abbrev pub line_text : Line → List ℕ
-line_text l = decimal l.place ++ (codes " " ++ (decimal l.refusal ++ (codes " " ++ decimal l.pending)))
+line_text l = decimal l.place ++ (codes " " ++ (decimal (refusal_number l.answer) ++ (codes " " ++ decimal l.pending)))
 
 -- a line for each notice
 abbrev pub log_text : List Line → List ℕ

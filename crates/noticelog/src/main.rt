@@ -3,7 +3,7 @@
 
 mod line;
 mod log;
-mod start;
+mod logged_day;
 #[cfg(test)]
 mod tests;
 mod text;
@@ -17,8 +17,8 @@ const MOST_BYTES: u64 = 64 * 14;
 fn run(rt: &HostRuntime) -> anyhow::Result<()> {
     let mut bytes = Vec::new(rt.alloc());
     rt.stdin().take(MOST_BYTES).read_to_end(&mut bytes)?;
-    let text = report(rt.alloc(), bytes.as_slice())?;
-    rt.print(text)?;
+    let text = report(rt.alloc(), &bytes)?;
+    print!(rt; "{text}")?;
     Ok(())
 }
 

@@ -12,21 +12,20 @@ const NOTICES: [u8; 42] = [
     0x10, 0x00, 0x07, 0x00, 0x01, 0x00, 0x03, 0x21, 0x48, 0x00, 0x01, 0xF4, 0x00, 0x34, // another partner
 ];
 
-fn line(place: usize, refusal: u8, pending: usize) -> Option<Line> {
-    Some(Line {
-        place,
-        refusal,
-        pending,
-    })
+// The place, the refusal's number and the pending notices of the line at an index.
+fn line(lines: &[Line], at: usize) -> Option<(usize, u8, usize)> {
+    lines
+        .get(at)
+        .map(|line| (line.place, line.refusal(), line.pending))
 }
 
 #[test]
 fn three_notices(rt: HostRuntime) -> Result<(), Fail> {
     let lines = log_day(rt.alloc(), &NOTICES)?;
     assert_eq!(rt; lines.len(), 3);
-    assert_eq!(rt; lines.get(0).copied(), line(1, 0, 1));
-    assert_eq!(rt; lines.get(1).copied(), line(2, 0, 0));
-    assert_eq!(rt; lines.get(2).copied(), line(3, 2, 0));
+    assert_eq!(rt; line(&lines, 0), Some((1, 0, 1)));
+    assert_eq!(rt; line(&lines, 1), Some((2, 0, 0)));
+    assert_eq!(rt; line(&lines, 2), Some((3, 2, 0)));
     Ok(())
 }
 
@@ -35,7 +34,7 @@ fn nothing_and_a_short_rest(rt: HostRuntime) -> Result<(), Fail> {
     assert_eq!(rt; log_day(rt.alloc(), &[])?.len(), 0);
     let lines = log_day(rt.alloc(), &NOTICES[0..17])?;
     assert_eq!(rt; lines.len(), 2);
-    assert_eq!(rt; lines.get(1).copied(), line(2, 1, 1));
+    assert_eq!(rt; line(&lines, 1), Some((2, 1, 1)));
     Ok(())
 }
 
@@ -43,7 +42,7 @@ fn nothing_and_a_short_rest(rt: HostRuntime) -> Result<(), Fail> {
 fn what_follows_the_last(rt: HostRuntime) -> Result<(), Fail> {
     let lines = log_day(rt.alloc(), &[0; 900])?;
     assert_eq!(rt; lines.len(), 64);
-    assert_eq!(rt; lines.get(63).copied(), line(64, 3, 0));
+    assert_eq!(rt; line(&lines, 63), Some((64, 3, 0)));
     Ok(())
 }
 
@@ -69,9 +68,9 @@ fn the_text_of_nothing_and_of_a_short_rest(rt: HostRuntime) -> Result<(), Fail> 
 // Lodgings of party 1 to party 8, numbered from 1 to the last.
 fn lodgings(heap: Global, last: u16) -> Result<Vec<u8>, AllocError> {
     let mut bytes = Vec::new(heap);
-    for before in 0..last {
+    for number in 1..=last {
         let trade = Trade {
-            number: before + 1,
+            number,
             sender: 1,
             partner: 8,
             direction: Direction::Sells,

@@ -6,25 +6,22 @@ use crate::line::Line;
 use crate::log::log_day;
 use std::alloc::{AllocError, Global};
 use std::fmt;
+use std::fmt::Write;
 
 impl fmt::Display for Line {
     ghost output = { λ l. Some (line_text l) };
 
     fn fmt<W: fmt::Write>(&self, f: &mut fmt::Formatter<W>) -> fmt::Result {
-        let place = self.place;
-        let refusal = self.refusal;
-        let pending = self.pending;
-        write!(f, "{place} {refusal} {pending}")
+        write!(f, "{} {} {}", self.place, self.refusal(), self.pending)
     }
 }
 
 // What is printed of the notices in the bytes: a line for each.
-pub fn report(heap: Global, bytes: &[u8]) -> anyhow::Result<String>
+pub fn report(heap: Global, bytes: &[u8]) -> Result<String, AllocError>
     ensures { IfOk result (λ text. Reports bytes.now (string_bytes text)) }
 {
     let lines = log_day(heap, bytes)?;
-    let text = written(heap, lines.as_slice())?;
-    Ok(text)
+    written(heap, &lines)
 }
 
 fn written(heap: Global, lines: &[Line]) -> Result<String, AllocError>
@@ -32,8 +29,7 @@ fn written(heap: Global, lines: &[Line]) -> Result<String, AllocError>
 {
     let mut text = String::new(heap);
     for line in lines {
-        let one = format!(in heap; "{line}\n")?;
-        text.push_str(one.as_str())?;
+        writeln!(text, "{line}")?;
     }
     Ok(text)
 }
