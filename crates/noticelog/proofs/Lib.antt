@@ -1,3 +1,2 @@
 pub mod Logging
 pub mod Starting
-pub mod Printing

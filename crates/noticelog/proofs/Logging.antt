@@ -1,5 +1,6 @@
 -- One notice more in the log.
-use Rattle.std.proofs.Common.{◌≡◌, ℕ, zero, suc, ◌+◌, ◌-◌, ◌<◌, min, Bool, true, false, ◌⊎◌, List, [], ◌∷◌, ◌++◌, length, take, drop, None, Some, sym, refl, ap, ◌∙◌, ⊎_elim, append_assoc, append-nil, arith}
+use Rattle.std.proofs.Common.{◌≡◌, ℕ, zero, suc, ◌+◌, ◌-◌, ◌<◌, min, Bool, true, false, ◌⊎◌, List, [], ◌∷◌, ◌++◌, length, take, drop, Some, sym, refl, ap, ◌∙◌, append_assoc, append-nil, arith}
+use mathlib.Core.Logic.{inl}
 use Rattle.day.specs.Noticing.{noticing}
 use Rattle.memory.specs.declared.types.Extent.{Extent}
 use Rattle.memory.specs.Held.{Held}
@@ -20,16 +21,15 @@ follows x y = y ≡ x + 1
 abbrev pub still_to_log : RangeInclusive ℕ → List ℕ → Extent → Held → List Line
 still_to_log places rest e m = log_from (range_inclusive_start places) e m (notices_in (range_inclusive_left gap places) rest)
 
-logged_none : (place : ℕ) (e : Extent) (m : Held) (most : ℕ) (rest : List ℕ) → length rest ≡ 0 → log_from place e m (notices_in most rest) ≡ []
-unfolding log_from
-logged_none place e m zero rest h = refl
-logged_none place e m (suc most) [] h = refl
-logged_none place e m (suc most) (b ∷ bs) h = absurd (omega arith)
+-- no notice is read where none may be, or no byte is left
+no_notice : (most : ℕ) (rest : List ℕ) → (most ≡ 0) ⊎ (length rest ≡ 0) → notices_in most rest ≡ []
+no_notice zero rest none = refl
+no_notice (suc most) [] none = refl
+no_notice (suc most) (b ∷ bs) none = absurd (omega arith)
 
-logged_all : (place : ℕ) (e : Extent) (m : Held) (most : ℕ) (rest : List ℕ) → most ≡ 0 → log_from place e m (notices_in most rest) ≡ []
+logged_none : (place : ℕ) (e : Extent) (m : Held) (most : ℕ) (rest : List ℕ) → (most ≡ 0) ⊎ (length rest ≡ 0) → log_from place e m (notices_in most rest) ≡ []
 unfolding log_from
-logged_all place e m zero rest h = refl
-logged_all place e m (suc most) rest h = absurd (omega arith)
+logged_none place e m most rest none = ap (log_from place e m) (no_notice most rest none)
 
 logged_more : (place : ℕ) (e : Extent) (m : Held) (most most' : ℕ) (rest : List ℕ) → most' + 1 ≡ most → 0 < length rest →
     log_from place e m (notices_in most rest) ≡
@@ -43,11 +43,12 @@ logged_more place e m (suc most) most' (b ∷ bs) is h =
     ap (λ n. line_of place o ∷ log_from (place + 1) o.extent o.memory (notices_in n (drop 14 (b ∷ bs)))) same
 
 -- the place that comes next counts only if one is left
-next_place : (places : RangeInclusive ℕ) (b : Bool) (place : ℕ) (rest : List ℕ) (e : Extent) (m : Held) → range_inclusive_exhausted places ≡ b → (b ≡ false → range_inclusive_start places ≡ place) →
+next_place : (places : RangeInclusive ℕ) (b : Bool) (place : ℕ) (rest : List ℕ) (e : Extent) (m : Held) →
+    range_inclusive_exhausted places ≡ b → (b ≡ false → range_inclusive_start places ≡ place) →
     log_from place e m (notices_in (range_inclusive_left gap places) rest) ≡ still_to_log places rest e m
 next_place places true place rest e m is start =
     let none : range_inclusive_left gap places ≡ 0 = ap (range_inclusive_len gap (range_inclusive_start places) (range_inclusive_end places)) is in
-    logged_all place e m _ rest none ∙ sym (logged_all (range_inclusive_start places) e m _ rest none)
+    logged_none place e m _ rest (inl none) ∙ sym (logged_none (range_inclusive_start places) e m _ rest (inl none))
 next_place places false place rest e m is start = ap (λ n. log_from n e m (notices_in (range_inclusive_left gap places) rest)) (sym (start refl))
 
 -- before the first: no place is used and no byte is read
@@ -77,7 +78,4 @@ module _ (lines all : List Line) (places : RangeInclusive ℕ) (rest : List ℕ)
 
   -- the end: no place is left, or no byte
   pub ended : (range_inclusive_left gap places ≡ 0) ⊎ (length rest ≡ 0) → lines ≡ all
-  ended none =
-      let nothing : still_to_log places rest e m ≡ [] =
-      ⊎_elim (λ l. logged_all (range_inclusive_start places) e m _ rest l) (λ r. logged_none (range_inclusive_start places) e m _ rest r) none in
-      sym (append-nil lines) ∙ ap (λ ls. lines ++ ls) (sym nothing) ∙ inv
+  ended none = sym (append-nil lines) ∙ ap (λ ls. lines ++ ls) (sym (logged_none (range_inclusive_start places) e m _ rest none)) ∙ inv

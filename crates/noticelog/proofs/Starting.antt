@@ -1,8 +1,11 @@
 -- The day before the first notice: its opening, and one party more.
-use Rattle.std.proofs.Common.{◌≡◌, ℕ, ◌+◌, ◌<◌, length, Ok, Result, sym, refl, ap, ◌∙◌, subst, arith, below_more}
-use Rattle.day.proofs.Concluded.{granted, granted_back, ready_passes}
+use Rattle.std.proofs.Common.{◌≡◌, ℕ, ◌+◌, ◌<◌, length, Ok, sym, refl, ap, ◌∙◌, subst, arith, below_more}
+use Rattle.day.proofs.Concluded.{granted, ready_passes}
 use Rattle.day.proofs.PartyKept.{party_kept, pushed_below}
+use Rattle.day.specs.Days.{open_extent}
+use Rattle.day.specs.declared.types.OpenDay.{OpenDay}
 use Rattle.day.specs.Entering.{entering_faults, entering_party, party_entered, party_faults}
+use Rattle.day.specs.Opening.{Opened}
 use Rattle.day.specs.Outcome.{Outcome}
 use Rattle.memory.specs.declared.types.Extent.{Extent}
 use Rattle.memory.specs.declared.types.Party.{Party}
@@ -11,15 +14,23 @@ use Rattle.memory.specs.Order.{Sized, InOrder}
 use Rattle.memory.specs.Ready.{memory_faults}
 use Rattle.noticelog.specs.Start.{Begun, NumberedParties}
 use Rattle.refusal.proofs.Judging.{passed_both}
-use Rattle.refusal.specs.declared.fault.Fault.{Fault}
 use Rattle.register.proofs.Meaning.{decides_unborne}
 use Rattle.register.specs.Numbers.{Distinct, Unborne}
 use Rattle.std.proofs.lemmas.List.{get_or-set_same, length-set}
-use Rattle.std.proofs.lemmas.Bool.{leb-false, lt-leb, ne_eqb, not-true}
+use Rattle.std.proofs.lemmas.Bool.{lt-leb, ne_eqb, not-true}
 use Rattle.store.specs.Stored.{blank}
 
-pub numbered_none : (e : Extent) (m : Held) → e.parties ≡ 0 → NumberedParties e 0 e m
-numbered_none e m none = record { day = refl; points = refl; notices = refl; parties = none; numbers = λ i l. absurd (omega arith) }
+-- the parties 1 to the last are entered upon the day that was before, which is the one that its log begins with
+pub record EnteredUpTo (before : Extent) (last : ℕ) (e : Extent) (m : Held) : Type 0 where
+  pub numbered : NumberedParties before last e m
+  pub begun : Begun last e m
+
+pub entered_none : (e : Extent) (m : Held) → Begun 0 e m → EnteredUpTo e 0 e m
+entered_none e m begun =
+    record {
+      numbered = record { day = refl; points = refl; notices = refl; parties = begun.parties; numbers = begun.numbers };
+      begun = begun;
+    }
 
 no_numbers : (f : ℕ → ℕ) (n : ℕ) → n ≡ 0 → Distinct f n
 unfolding Distinct
@@ -63,8 +74,8 @@ module _ (e : Extent) (none-party : e.parties ≡ 0) (none-point : e.points ≡ 
             };
       }
 
-  pub begun_none : e.day.number ≡ 2 → e.day.count ≡ 96 → Begun 0 e m
-  begun_none number count =
+  blank_begun : e.day.number ≡ 2 → e.day.count ≡ 96 → Begun 0 e m
+  blank_begun number count =
       record {
         number = number;
         count = count;
@@ -78,6 +89,10 @@ module _ (e : Extent) (none-party : e.parties ≡ 0) (none-point : e.points ≡ 
         sized = blank_sized;
         in_order = blank_in_order;
       }
+
+-- the day that was opened, upon the memory that was made for it
+pub begun_none : (d : OpenDay) (m : Held) → Opened 2 96 (Ok d) → m ≡ blank 8 0 64 → Begun 0 (open_extent d) m
+begun_none d m opened made = subst (λ (h : Held). Begun 0 (open_extent d) h) (sym made) (blank_begun (open_extent d) opened.2 opened.3 opened.4 opened.0 opened.1)
 
 -- the entry of the next party is granted, and leaves one party more
 module _ (k : ℕ) (e : Extent) (m : Held) (old : Begun k e m) (few : k < 8) where
@@ -118,17 +133,18 @@ module _ (k : ℕ) (e : Extent) (m : Held) (old : Begun k e m) (few : k < 8) whe
         in_order = kept.1;
       }
 
-  numbered_here : (before : Extent) → NumberedParties before k e m → NumberedParties before (k + 1) (party_entered e m (k + 1)).extent (party_entered e m (k + 1)).memory
-  numbered_here before was = record { day = was.day; points = was.points; notices = was.notices; parties = begun_here.parties; numbers = begun_here.numbers }
-
-  -- the entry of the number after the last, whatever outcome it has
-  pub next_entered : (before : Extent) → NumberedParties before k e m → (number last : ℕ) → number ≡ k + 1 → last ≡ k + 1 → (o : Outcome) → entering_party e m number ≡ o →
-      (o.answer ≡ Ok tt) × NumberedParties before last o.extent o.memory × Begun last o.extent o.memory
-  next_entered before was number last next after o is =
-      let g = party_entered e m (k + 1) in
-      let same : record { answer = Ok tt; extent = g.extent; memory = g.memory } ≡ o = sym entry ∙ ap (entering_party e m) (sym next) ∙ is in
-      subst (λ (p : Outcome). (p.answer ≡ Ok tt) × NumberedParties before last p.extent p.memory × Begun last p.extent p.memory) same (
-        refl,
-        subst (λ n. NumberedParties before n g.extent g.memory) (sym after) (numbered_here before was),
-        subst (λ n. Begun n g.extent g.memory) (sym after) begun_here,
-      )
+-- the entry of the number after the last, whatever outcome it has
+pub entered_next : {before e : Extent} {m : Held} {k : ℕ} → EnteredUpTo before k e m → k < 8 → (number last : ℕ) → number ≡ k + 1 → last ≡ k + 1 → (o : Outcome) → entering_party e m number ≡ o →
+    (o.answer ≡ Ok tt) × EnteredUpTo before last o.extent o.memory
+entered_next {before} {e} {m} {k} old few number last next after o is =
+    let g = party_entered e m (k + 1) in
+    let was = old.numbered in
+    let begun = begun_here k e m old.begun few in
+    let entered : EnteredUpTo before (k + 1) g.extent g.memory =
+    record {
+      numbered = record { day = was.day; points = was.points; notices = was.notices; parties = begun.parties; numbers = begun.numbers };
+      begun = begun;
+    } in
+    let same : record { answer = Ok tt; extent = g.extent; memory = g.memory } ≡ o = sym (entry k e m old.begun few) ∙ ap (entering_party e m) (sym next) ∙ is in
+    subst (λ (p : Outcome). (p.answer ≡ Ok tt) × EnteredUpTo before last p.extent p.memory) same
+    (refl, subst (λ n. EnteredUpTo before n g.extent g.memory) (sym after) entered)

@@ -1,5 +1,6 @@
 -- What is printed of a log.
-use Rattle.std.specs.Prelude.{◌≡◌, ℕ, List, [], ◌∷◌, ◌++◌, codes, decimal}
+use Rattle.std.specs.Prelude.{◌≡◌, ℕ, List, ◌++◌, codes, decimal}
+use Rattle.std.specs.List.{flat_map}
 use Rattle.noticelog.specs.declared.line.Line.{Line}
 use Rattle.noticelog.specs.Log.{BegunLogs, refusal_number}
 
@@ -9,8 +10,7 @@ line_text l = decimal l.place ++ (codes " " ++ (decimal (refusal_number l.answer
 
 -- a line for each notice
 abbrev pub log_text : List Line → List ℕ
-log_text [] = []
-log_text (l ∷ ls) = (line_text l ++ codes "\n") ++ log_text ls
+log_text lines = flat_map (λ l. line_text l ++ codes "\n") lines
 
 -- the text of the log of the notices in the bytes
 abbrev pub Reports : List ℕ → List ℕ → Type 0
