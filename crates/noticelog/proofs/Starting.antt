@@ -20,7 +20,7 @@ use Rattle.std.proofs.lemmas.List.{get_or-set_same, length-set}
 use Rattle.std.proofs.lemmas.Bool.{lt-leb, ne_eqb, not-true}
 use Rattle.store.specs.Stored.{blank}
 
--- the parties 1 to the last are entered upon the day that was before, which is the one that its log begins with
+-- what the entries of the parties 1 to the last have made of the day before them and of its memory
 pub record EnteredUpTo (before : Extent) (last : ℕ) (e : Extent) (m : Held) : Type 0 where
   pub numbered : NumberedParties before last e m
   pub begun : Begun last e m
@@ -133,8 +133,9 @@ module _ (k : ℕ) (e : Extent) (m : Held) (old : Begun k e m) (few : k < 8) whe
         in_order = kept.1;
       }
 
--- the entry of the number after the last, whatever outcome it has
-pub entered_next : {before e : Extent} {m : Held} {k : ℕ} → EnteredUpTo before k e m → k < 8 → (number last : ℕ) → number ≡ k + 1 → last ≡ k + 1 → (o : Outcome) → entering_party e m number ≡ o →
+-- whatever outcome the entry of the next number has, it is that grant
+pub entered_next : {before e : Extent} {m : Held} {k : ℕ} → EnteredUpTo before k e m → k < 8 →
+    (number last : ℕ) → number ≡ k + 1 → last ≡ k + 1 → (o : Outcome) → entering_party e m number ≡ o →
     (o.answer ≡ Ok tt) × EnteredUpTo before last o.extent o.memory
 entered_next {before} {e} {m} {k} old few number last next after o is =
     let g = party_entered e m (k + 1) in
