@@ -6,7 +6,6 @@ use crate::line::Line;
 use crate::log::log_day;
 use std::alloc::{AllocError, Global};
 use std::fmt;
-use std::fmt::Write;
 
 impl fmt::Display for Line {
     ghost output = { λ l. Some (line_text l) };
