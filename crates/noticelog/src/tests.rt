@@ -32,7 +32,7 @@ fn three_notices(rt: HostRuntime) -> Result<(), Fail> {
 #[test]
 fn nothing_and_a_short_rest(rt: HostRuntime) -> Result<(), Fail> {
     assert_eq!(rt; log_day(rt.alloc(), &[])?.len(), 0);
-    let lines = log_day(rt.alloc(), &NOTICES[0..17])?;
+    let lines = log_day(rt.alloc(), &NOTICES[..17])?;
     assert_eq!(rt; lines.len(), 2);
     assert_eq!(rt; line(&lines, 1), Some((2, 1, 1)));
     Ok(())
@@ -59,7 +59,7 @@ fn the_text_of_three_notices(rt: HostRuntime) -> Result<(), Fail> {
 fn the_text_of_nothing_and_of_a_short_rest(rt: HostRuntime) -> Result<(), Fail> {
     assert_eq!(rt; report(rt.alloc(), &[])?.as_str(), "");
     assert_eq!(rt;
-        report(rt.alloc(), &NOTICES[0..17])?.as_str(),
+        report(rt.alloc(), &NOTICES[..17])?.as_str(),
         "1 0 1\n2 1 1\n"
     );
     Ok(())
@@ -89,11 +89,8 @@ fn lodgings(heap: Global, last: u16) -> Result<Vec<u8>, AllocError> {
 fn room_for_the_last_and_none_read_after_it(rt: HostRuntime) -> Result<(), Fail> {
     let all = lodgings(rt.alloc(), 64)?;
     let more = lodgings(rt.alloc(), 65)?;
-    let text = report(rt.alloc(), all.as_slice())?;
-    assert_eq!(rt; text.as_str().ends_with("\n63 0 63\n64 0 64\n"), true);
-    assert_eq!(rt;
-        text.as_str(),
-        report(rt.alloc(), more.as_slice())?.as_str()
-    );
+    let text = report(rt.alloc(), &all)?;
+    assert!(rt; text.as_str().ends_with("\n63 0 63\n64 0 64\n"));
+    assert_eq!(rt; text.as_str(), report(rt.alloc(), &more)?.as_str());
     Ok(())
 }
