@@ -1,6 +1,8 @@
 -- On memory in order, a party is entered exactly when there is room for it.
-use Rattle.std.proofs.Common.{◌≡◌, ℕ, not, Result, ap}
-use Rattle.day.proofs.Concluded.{decides_granted, ready_passes}
+use Rattle.std.proofs.Common.{◌≡◌, ℕ, not, OnOk, Result, ap}
+use Rattle.day.proofs.Concluded.{Kept, decides_granted, kept_as, ready_passes, ready_told}
+use Rattle.day.proofs.PartyKept.{party_kept_passed}
+use Rattle.day.specs.Outcome.{Outcome}
 use Rattle.day.specs.Entering.{Admits, entering_faults, entering_party, party_entered, party_faults}
 use Rattle.memory.specs.declared.types.Extent.{Extent}
 use Rattle.memory.specs.Held.{Held, party_number}
@@ -24,3 +26,13 @@ admits_as e m n r is sized order =
     let new = not-true _ ((decides_unborne e.parties (party_number m) n).1 room.new) in
     (ne_eqb n 0 room.named, passed_both (memory_faults e m) tests (ready_passes e m sized order) (new, (lt-leb _ _ room.room, tt))))
     (decides_granted e m (entering_faults e m n) (party_entered e m n) r is)
+
+-- and the memory is in order after a grant
+pub kept_then : (e : Extent) (m : Held) (n : ℕ) (o : Outcome) → entering_party e m n ≡ o → OnOk o.answer (Kept o.extent o.memory)
+kept_then e m n o is =
+    let tests = party_faults e.parties m.parties n in
+    kept_as e m (entering_faults e m n) (party_entered e m n) o is
+    (λ p.
+    let q = passed_parts (memory_faults e m) tests p.1 in
+    let ready = ready_told e m q.0 in
+    party_kept_passed e m n ready.0 ready.1 (eqb-false n 0 p.0) q.1)

@@ -1,5 +1,5 @@
 -- What tests in their order come to in an outcome.
-use Rattle.std.proofs.Common.{◌≡◌, ℕ, Bool, true, false, List, [], ◌∷◌, ◌++◌, is_ok, Ok, Err, Decides, Result, sym, refl, ap, ◌∙◌, append-nil, arith}
+use Rattle.std.proofs.Common.{◌≡◌, ℕ, Bool, true, false, List, [], ◌∷◌, ◌++◌, is_ok, Ok, Err, OnOk, Decides, Result, sym, refl, ap, ◌∙◌, append-nil, arith}
 use Rattle.day.specs.Outcome.{Outcome, Grant, concluded}
 use Rattle.memory.specs.declared.types.Extent.{Extent}
 use Rattle.memory.specs.Held.{Held}
@@ -9,7 +9,7 @@ use Rattle.memory.specs.Ready.{memory_faults}
 use Rattle.refusal.proofs.Judging.{Passed, decides_passed, judged_all, judged_passed, judged_fault}
 use Rattle.refusal.specs.declared.fault.Fault.{Fault}
 use Rattle.refusal.specs.Judging.{judged}
-use Rattle.std.proofs.lemmas.Bool.{not_from_true}
+use Rattle.std.proofs.lemmas.Bool.{not_from_true, not-false}
 use Rattle.std.proofs.lemmas.Bool.Decides.{Decides-at}
 
 -- the memory is in order after a grant
@@ -72,3 +72,16 @@ decides_granted e m ts g r is = Decides-at _ _ (ap is_ok (sym is) ∙ answered_a
 -- memory that has its sizes and is in order meets no refusal
 pub ready_passes : (e : Extent) (m : Held) → Sized e m → InOrder e m → Passed (memory_faults e m)
 ready_passes e m sized order = (not_from_true _ ((decides_sized e m).1 sized), (not_from_true _ ((decides_in_order e m).1 order), tt))
+
+-- and memory that meets none has its sizes and is in order
+pub ready_told : (e : Extent) (m : Held) → Passed (memory_faults e m) → Kept e m
+ready_told e m p = ((decides_sized e m).0 (not-false _ p.0), (decides_in_order e m).0 (not-false _ p.1.0))
+
+on_grant : {P : Type 0} (r : Result (Unit {0}) Fault) → (r ≡ Ok tt → P) → OnOk r P
+on_grant (Ok u) f = f refl
+on_grant (Err x) f = tt
+
+-- what is true of a grant is true of the outcome where it grants
+pub kept_as : (e : Extent) (m : Held) (ts : List (Bool × Fault)) (g : Grant) (o : Outcome) → concluded e m (judged ts g) ≡ o → (Passed ts → Kept g.extent g.memory) → OnOk o.answer (Kept o.extent o.memory)
+kept_as e m ts g o is kept =
+    on_grant o.answer (λ ok. let b = granted_back e m ts g o is ok in rw (b.1, b.2) (kept b.0))

@@ -74,9 +74,12 @@ used_after used (Confirmation t) = used
 used_after used (Withdrawal t) = used
 
 module _ (e : Extent) (m : Held) where
-  -- the tests of the state for a notice that was read
+  -- the tests of a notice that was read, on memory in order; and those of the state
+  abbrev pub notice_faults : Notice → List (Bool × Fault)
+  notice_faults n = (party_unknown e.parties m.parties (stated n), UnknownParty) ∷ kind_faults e.notices m.notices n
+
   abbrev pub state_faults : Notice → List (Bool × Fault)
-  state_faults n = memory_faults e m ++ ((party_unknown e.parties m.parties (stated n), UnknownParty) ∷ kind_faults e.notices m.notices n)
+  state_faults n = memory_faults e m ++ notice_faults n
 
   abbrev pub noticed : Notice → Grant
   noticed n =

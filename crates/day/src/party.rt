@@ -1,5 +1,5 @@
 // Entry of a party.
-ghost use Rattle.std.specs.Prelude.{◌≡◌, ◌+◌, ◌*◌, ◌≤◌, length, set, is_ok, if◌then◌else◌, OnOk};
+ghost use Rattle.std.specs.Prelude.{◌≡◌, ◌+◌, ◌*◌, ◌≤◌, length, slice_set, is_ok, if◌then◌else◌, OnOk};
 ghost use Rattle.day.specs.Days.{open_extent};
 ghost use Rattle.day.specs.Entering.{Admits, entering_party, party_faults};
 ghost use Rattle.day.specs.Outcome.{Outcome};
@@ -13,16 +13,8 @@ use crate::rows::fill_row;
 use crate::types::*;
 use memory::{Extent, Memory, Outside, Party, ready};
 use refusal::Fault;
-use register::Register;
-use units::{Kwh, Mills};
-
-// What no record is numbered.
-const NO_NUMBER: u16 = 0;
-
-const NO_OUTSIDE: Outside = Outside {
-    exchange: Kwh(0),
-    correction: Kwh(0),
-};
+use register::{NO_NUMBER, Register};
+use units::Mills;
 
 impl OpenDay {
     // Enters a party in the place after the last. Its outside figures, amount and sum billed are zero.
@@ -37,21 +29,18 @@ impl OpenDay {
         ready(&self.extent, &memory)?;
         let Memory {
             parties,
-            points: _,
-            notices: _,
-            readings: _,
             outside,
-            imbalances: _,
             amounts,
             billed,
-            bills: _,
+            ..
         } = memory;
         append_party(&mut self.extent, parties, outside, amounts, billed, number)?;
         Ok(())
     }
 }
 
-// The same where the memory has its sizes.
+// The same where the memory has its sizes. It takes the slices that it writes and not the memory, and is not the last expression above:
+// of a memory that is passed on whole, or by the last expression, the check does not tell what it holds.
 fn append_party(
     extent: &mut Extent,
     parties: &mut [Party],
@@ -66,10 +55,10 @@ fn append_party(
     requires billed_size { length billed.old ≡ length parties.old }
     ensures answer { result ≡ judged (party_faults extent.old.parties parties.old number) tt }
     ensures extent { extent.new ≡ (if is_ok result then with_party_count extent.old (extent.old.parties + 1) else extent.old) }
-    ensures parties { parties.new ≡ (if is_ok result then set parties.old extent.old.parties (record { number = number }) else parties.old) }
+    ensures parties { parties.new ≡ (if is_ok result then slice_set parties.old extent.old.parties (record { number = number }) else parties.old) }
     ensures outside { outside.new ≡ (if is_ok result then row_filled extent.old.parties extent.old.day.count no_outside outside.old else outside.old) }
-    ensures amounts { amounts.new ≡ (if is_ok result then set amounts.old extent.old.parties no_mills else amounts.old) }
-    ensures billed { billed.new ≡ (if is_ok result then set billed.old extent.old.parties no_mills else billed.old) }
+    ensures amounts { amounts.new ≡ (if is_ok result then slice_set amounts.old extent.old.parties no_mills else amounts.old) }
+    ensures billed { billed.new ≡ (if is_ok result then slice_set billed.old extent.old.parties no_mills else billed.old) }
 {
     let place = extent.parties;
     let mut register = Register {
@@ -77,9 +66,14 @@ fn append_party(
         used: place,
     };
     register.enter(Party { number })?;
-    fill_row(outside, place, extent.day.count as usize, NO_OUTSIDE);
+    fill_row(
+        outside,
+        place,
+        usize::from(extent.day.count),
+        Outside::default(),
+    );
     amounts[place] = Mills(0);
     billed[place] = Mills(0);
-    extent.parties = place + 1;
+    extent.parties = register.used;
     Ok(())
 }

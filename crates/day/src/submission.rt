@@ -1,15 +1,15 @@
 // A notice to an open day.
-ghost use Rattle.std.specs.Prelude.{◌≡◌, ◌≤◌, [], ◌∷◌, length, is_ok, if◌then◌else◌, OnOk};
+ghost use Rattle.std.specs.Prelude.{◌≡◌, ◌≤◌, [], ◌∷◌, min, length, is_ok, if◌then◌else◌, OnOk};
 ghost use Rattle.day.specs.Days.{open_extent};
 ghost use Rattle.day.specs.Answering.{Answers, Lodges};
-ghost use Rattle.day.specs.Noticing.{noticing, party_unknown, kind_faults, lodging_faults, answer_faults, lodged, restaged, recorded, used_after};
-ghost use Rattle.memory.specs.Held.{held, left, party_numbers};
+ghost use Rattle.day.specs.Noticing.{noticing, party_unknown, kind_faults, answer_faults, restaged, recorded, used_after};
+ghost use Rattle.day.specs.Outcome.{Outcome};
+ghost use Rattle.memory.specs.Held.{held, left};
 ghost use Rattle.memory.specs.Order.{InOrder, Sized};
 ghost use Rattle.memory.specs.With.{with_notice_count};
 ghost use Rattle.notice.specs.Form.{stated};
 ghost use Rattle.refusal.specs.declared.fault.Fault.TheVariants.{UnknownParty};
 ghost use Rattle.refusal.specs.Judging.{judged};
-ghost use Rattle.register.specs.Numbers.{knows};
 
 use crate::types::*;
 use memory::{Extent, Memory, NoticeRecord, Party, Stage, ready};
@@ -29,21 +29,15 @@ impl OpenDay {
         ready(&self.extent, &memory)?;
         let Memory {
             parties,
-            points: _,
             notices,
-            readings: _,
-            outside: _,
-            imbalances: _,
-            amounts: _,
-            billed: _,
-            bills: _,
+            ..
         } = memory;
         record_notice(&mut self.extent, parties, notices, notice)?;
         Ok(())
     }
 }
 
-// The same where the memory has its sizes.
+// Records a notice that was read, where the memory has its sizes.
 fn record_notice(
     extent: &mut Extent,
     parties: &[Party],
@@ -56,77 +50,52 @@ fn record_notice(
     ensures extent { extent.new ≡ (if is_ok result then with_notice_count extent.old (used_after extent.old.notices notice) else extent.old) }
     ensures notices { notices.new ≡ (if is_ok result then recorded extent.old.notices notices.old notice else notices.old) }
 {
-    let used = extent.notices;
-    parties_known(parties, extent.parties, trade_of(notice))?;
-    match notice {
-        Notice::Lodging(trade) => {
-            lodge(notices, used, trade)?;
-            extent.notices = used + 1;
-            Ok(())
-        }
-        Notice::Confirmation(trade) => answer(notices, used, trade.mirror(), Stage::Confirmed),
-        Notice::Withdrawal(trade) => answer(notices, used, trade, Stage::Withdrawn),
-    }
+    parties_known(parties, extent.parties, notice.trade())?;
+    let mut register = Register {
+        places: notices,
+        used: extent.notices,
+    };
+    record_in(&mut register, notice)?;
+    extent.notices = register.used;
+    Ok(())
 }
 
-fn trade_of(notice: Notice) -> Trade
-    ensures { result ≡ stated notice }
+// Enters the lodging in the register, or moves the record that the notice answers to another stage.
+fn record_in(register: &mut Register<NoticeRecord>, notice: Notice) -> Result<(), Fault>
+    ensures named { register.new.places.ghost_name ≡ register.old.places.ghost_name }
+    ensures answer { result ≡ judged (kind_faults (min register.old.used (length register.old.places.now)) register.old.places.now notice) tt }
+    ensures places { register.new.places.now ≡ (if is_ok result then recorded (min register.old.used (length register.old.places.now)) register.old.places.now notice else register.old.places.now) }
+    ensures used { register.new.used ≡ (if is_ok result then used_after register.old.used notice else register.old.used) }
 {
     match notice {
-        Notice::Lodging(trade) | Notice::Confirmation(trade) | Notice::Withdrawal(trade) => trade,
+        Notice::Lodging(trade) => register.enter(NoticeRecord {
+            trade,
+            stage: Stage::Pending,
+        }),
+        Notice::Confirmation(trade) => answer(register, trade.mirror(), Stage::Confirmed),
+        Notice::Withdrawal(trade) => answer(register, trade, Stage::Withdrawn),
     }
 }
 
 // Refuses a trade whose sender or partner is not entered.
 fn parties_known(parties: &[Party], used: usize, trade: Trade) -> Result<(), Fault>
-    requires { used ≤ length parties.now }
-    ensures { result ≡ judged ((party_unknown used parties.now trade, UnknownParty) ∷ []) tt }
+    ensures { result ≡ judged ((party_unknown (min used (length parties.now)) parties.now trade, UnknownParty) ∷ []) tt }
 {
-    if !party_known(parties, used, trade.sender) || !party_known(parties, used, trade.partner) {
+    if find_place(parties, used, trade.sender).is_none()
+        || find_place(parties, used, trade.partner).is_none()
+    {
         return Err(Fault::UnknownParty);
     }
     Ok(())
 }
 
-fn party_known(parties: &[Party], used: usize, number: u16) -> bool
-    requires { used ≤ length parties.now }
-    ensures { result ≡ knows used (party_numbers parties.now) number }
-{
-    find_place(parties, used, number).is_some()
-}
-
-// Enters a pending notice in the place after the last.
-fn lodge(notices: &mut [NoticeRecord], used: usize, trade: Trade) -> Result<(), Fault>
-    requires { used ≤ length notices.old }
-    ensures answer { result ≡ judged (lodging_faults used notices.old trade) tt }
-    ensures notices { notices.new ≡ (if is_ok result then lodged used notices.old trade else notices.old) }
-{
-    let mut register = Register {
-        places: notices,
-        used,
-    };
-    register.enter(NoticeRecord {
-        trade,
-        stage: Stage::Pending,
-    })?;
-    Ok(())
-}
-
 // Moves the pending notice that is lodged as this trade to another stage.
-fn answer(
-    notices: &mut [NoticeRecord],
-    used: usize,
-    trade: Trade,
-    stage: Stage,
-) -> Result<(), Fault>
-    requires { used ≤ length notices.old }
-    ensures answer { result ≡ judged (answer_faults used notices.old trade) tt }
-    ensures notices { notices.new ≡ (if is_ok result then restaged used notices.old trade.number stage else notices.old) }
+fn answer(register: &mut Register<NoticeRecord>, trade: Trade, stage: Stage) -> Result<(), Fault>
+    ensures named { register.new.places.ghost_name ≡ register.old.places.ghost_name }
+    ensures answer { result ≡ judged (answer_faults (min register.old.used (length register.old.places.now)) register.old.places.now trade) tt }
+    ensures places { register.new.places.now ≡ (if is_ok result then restaged (min register.old.used (length register.old.places.now)) register.old.places.now trade.number stage else register.old.places.now) }
+    ensures used { register.new.used ≡ register.old.used }
 {
-    let mut register = Register {
-        places: notices,
-        used,
-    };
     let Some(place) = register.find(trade.number) else {
         return Err(Fault::NotPending);
     };

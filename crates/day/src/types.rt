@@ -1,7 +1,6 @@
 // The four states of a delivery day. Each is a type of its own that moves from call to call and cannot be copied:
-// a call that a state does not have does not compile.
-ghost use Rattle.std.specs.Prelude.{◌≡◌, true};
-
+// a call that a state does not have does not compile. They share no generic type: it would take a marker and an
+// alias for each of them to share one line, that of `extent`.
 use memory::Extent;
 
 // An open day takes parties, points and notices.
@@ -16,21 +15,10 @@ pub struct ShutDay {
     pub(crate) extent: Extent,
 }
 
-// A settled day has its imbalances and amounts. It is billed or taken back, and may not be let go before that.
+// A settled day has its imbalances and amounts. It is billed or taken back: it cannot be dropped, so that letting it go does not compile.
+#[must_use]
 pub struct SettledDay {
     pub(crate) extent: Extent,
-    pub(crate) spent: bool,
-}
-
-impl Drop for SettledDay {
-    fn drop(self)
-        requires { self.spent ≡ true }
-    {
-        let SettledDay {
-            extent: _,
-            spent: _,
-        } = self;
-    }
 }
 
 // A billed day can be reopened.

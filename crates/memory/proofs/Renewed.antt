@@ -1,8 +1,8 @@
 -- What a list that is rewritten by place holds.
-use Rattle.std.proofs.Common.{◌≡◌, ℕ, zero, suc, ◌+◌, ◌*◌, ◌<◌, ◌≤◌, cond, ◌≢◌, List, [], ◌∷◌, length, get_or, set, sym, refl, ap, ◌∙◌, ⊎_elim, add-zero, zero-add, arith}
+use Rattle.std.proofs.Common.{◌≡◌, ℕ, zero, suc, ◌+◌, ◌*◌, ◌<◌, ◌≤◌, ◌-◌, cond, ◌≢◌, List, [], ◌∷◌, ◌++◌, length, take, drop, replicate, get_or, sym, refl, ap, ◌∙◌, ⊎_elim, add-zero, zero-add, arith}
 use Rattle.memory.specs.Rows.{renewed_from, renewed, in_row, row_filled}
-use Rattle.std.proofs.lemmas.List.{same_lists, length-set, get_or-set_same, get_or-set_other}
-use Rattle.std.proofs.lemmas.Bool.{cases_eq, cond-true, cond-false}
+use Rattle.std.proofs.lemmas.List.{same_lists, get_or_append_left, get_or-append_right, get_or-take, get_or-drop, get_or-replicate, length-replicate, length-take, length-drop, length-append}
+use Rattle.std.proofs.lemmas.Bool.{cases_lt, cond-true, cond-false}
 use Rattle.std.proofs.lemmas.Bool.Decides.{nat_tests}
 
 length_renewed_from : {X : Type 0} (k : ℕ) (f : ℕ → X → X) (xs : List X) → length (renewed_from k f xs) ≡ length xs
@@ -25,32 +25,50 @@ unfolding renewed
 get_or_renewed f xs i d l = get_or_renewed_from 0 f xs i d l ∙ ap (λ n. f n (get_or xs i d)) (zero-add i)
 
 module _ {X : Type 0} (i : ℕ) (v : X) (xs : List X) where
-  -- no quarter-hour of the row; one more of them
-  pub row_none : row_filled i 0 v xs ≡ xs
-  row_none =
-      same_lists _ _ (length_renewed _ xs)
-      (λ k d l.
-      let h : k < length xs = omega (arith, length_renewed (λ k x. cond (in_row i 0 k) v x) xs) in
-      get_or_renewed _ xs k d h ∙ cond-false (in_row i 0 k) _ _ (grind (arith, nat_tests)))
+  -- the value written over the first `count` quarter-hours of the row
+  pub row_put : (count : ℕ) → i * 100 + count ≤ length xs → take (i * 100) xs ++ (replicate count v ++ drop count (drop (i * 100) xs)) ≡ row_filled i count v xs
+  row_put count room = same_lists _ _ (lengths ∙ sym (length_renewed (λ k x. cond (in_row i count k) v x) xs)) places
+    where
+      front : List X
+      front = take (i * 100) xs
 
-  pub row_more : (q : ℕ) → i * 100 + q < length xs → set (row_filled i q v xs) (i * 100 + q) v ≡ row_filled i (q + 1) v xs
-  row_more q room =
-      let f = λ (n k : ℕ) (x : X). cond (in_row i n k) v x in
-      let long = length_renewed (f q) xs in
-      let longer = length_renewed (f (q + 1)) xs in
-      same_lists _ _ (length-set (row_filled i q v xs) (i * 100 + q) v ∙ long ∙ sym longer)
-      (λ k d l.
-      let h : k < length xs = omega (arith, length-set (row_filled i q v xs) (i * 100 + q) v, long) in
-      ⊎_elim
-      (λ is.
-      rw is
-      (get_or-set_same (row_filled i q v xs) (i * 100 + q) v d (omega (arith, long)) ∙
-      sym (get_or_renewed (f (q + 1)) xs (i * 100 + q) d room ∙ cond-true (in_row i (q + 1) (i * 100 + q)) _ _ (grind (arith, nat_tests)))))
-      (λ ne.
-      let same : in_row i q k ≡ in_row i (q + 1) k = grind (arith, nat_tests) in
-      get_or-set_other (row_filled i q v xs) (i * 100 + q) k v d ne ∙ get_or_renewed (f q) xs k d h ∙
-      ap (λ b. cond b v (get_or xs k d)) same ∙ sym (get_or_renewed (f (q + 1)) xs k d h))
-      (cases_eq k (i * 100 + q)))
+      back : List X
+      back = drop count (drop (i * 100) xs)
+
+      front_long : length front ≡ i * 100
+      front_long = omega (arith, length-take (i * 100) xs)
+
+      back_long : length back + count + i * 100 ≡ length xs
+      back_long = omega (arith, length-drop count (drop (i * 100) xs), length-drop (i * 100) xs)
+
+      row_long : length (replicate count v) ≡ count
+      row_long = length-replicate count v
+
+      lengths : length (front ++ (replicate count v ++ back)) ≡ length xs
+      lengths = omega (arith, length-append front (replicate count v ++ back), length-append (replicate count v) back, front_long, back_long, row_long)
+
+      filled : (k : ℕ) (d : X) → k < length xs → get_or (row_filled i count v xs) k d ≡ cond (in_row i count k) v (get_or xs k d)
+      filled k d h = get_or_renewed (λ k x. cond (in_row i count k) v x) xs k d h
+
+      places : (k : ℕ) (d : X) → k < length (front ++ (replicate count v ++ back)) → get_or (front ++ (replicate count v ++ back)) k d ≡ get_or (row_filled i count v xs) k d
+      places k d h =
+          ⊎_elim
+          (λ (l : k < i * 100).
+          get_or_append_left front _ d k (omega (arith, front_long)) ∙ get_or-take (i * 100) xs k d l ∙
+          sym (filled k d (omega (arith, lengths)) ∙ cond-false (in_row i count k) _ _ (grind (arith, nat_tests))))
+          (λ (g : i * 100 ≤ k).
+          get_or-append_right front _ (i * 100) k d front_long g ∙
+          ⊎_elim
+          (λ (l : k - i * 100 < count).
+          get_or_append_left (replicate count v) back d (k - i * 100) (omega (arith, row_long)) ∙ get_or-replicate count (k - i * 100) v d l ∙
+          sym (filled k d (omega (arith, lengths)) ∙ cond-true (in_row i count k) _ _ (grind (arith, nat_tests))))
+          (λ (m : count ≤ k - i * 100).
+          get_or-append_right (replicate count v) back count (k - i * 100) d row_long m ∙ get_or-drop count (drop (i * 100) xs) (k - i * 100 - count) d ∙
+          get_or-drop (i * 100) xs (count + (k - i * 100 - count)) d ∙
+          (let e : i * 100 + (count + (k - i * 100 - count)) ≡ k = omega arith in ap (λ n. get_or xs n d) e) ∙
+          sym (filled k d (omega (arith, lengths)) ∙ cond-false (in_row i count k) _ _ (grind (arith, nat_tests))))
+          (cases_lt (k - i * 100) count))
+          (cases_lt k (i * 100))
 
   -- what stands in the row, and what in another
   pub row_at : (count q : ℕ) (d : X) → q < count → i * 100 + q < length xs → get_or (row_filled i count v xs) (i * 100 + q) d ≡ v

@@ -1,6 +1,6 @@
 pub mod Held
 pub mod Limits
-pub mod Tables
+pub mod NumberSets
 pub mod Order
 pub mod Ready
 pub mod Pending

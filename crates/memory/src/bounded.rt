@@ -1,7 +1,6 @@
 // Figures within their limits.
-ghost use Rattle.std.specs.Prelude.{◌≡◌, ℕ, ◌+◌, ◌*◌, ◌<◌, ◌≤◌, Bool, true, length, None, Decides, slice_index_or};
-ghost use Rattle.memory.specs.Held.{no_outside, no_mills};
-ghost use Rattle.memory.specs.Limits.{metered, scheduled, reading_fits, outside_fits, amount_fits};
+ghost use Rattle.std.specs.Prelude.{◌≡◌, ℕ, ◌*◌, ◌<◌, ◌≤◌, ◌↔◌, Bool, true, length, take, drop, IsTrue, All};
+ghost use Rattle.memory.specs.Limits.{reading_fits, outside_fits, amount_fits};
 
 use crate::types::{Outside, Reading};
 use units::{Kwh, Mills};
@@ -12,37 +11,26 @@ const MOST_ENERGY: i64 = 1_000_000;
 // The greatest size of an amount or a sum billed.
 const MOST_MILLS: i64 = 2_000_000_000_000_000_000;
 
+// The figures of a record are a row, with a place for each quarter-hour of the longest day.
+pub(crate) const ROW: usize = 100;
+
 // What has limits.
 pub(crate) trait Bounded {
     ghost within: { Self → Bool };
-
-    // What stands for a figure at a place that there is not.
-    ghost unset: { Self };
 
     fn fits(&self) -> bool
         ensures { result ≡ within self.now };
 }
 
-fn is_metered(energy: Kwh) -> bool
-    ensures { result ≡ metered energy }
-{
-    0 <= energy.0 && energy.0 <= MOST_ENERGY
-}
-
-fn is_scheduled(energy: Kwh) -> bool
-    ensures { result ≡ scheduled energy }
-{
-    -MOST_ENERGY <= energy.0 && energy.0 <= MOST_ENERGY
-}
-
 impl Bounded for Option<Reading> {
     ghost within = { reading_fits };
 
-    ghost unset = { None };
-
     fn fits(&self) -> bool {
         match self {
-            Some(r) => is_metered(r.injection) && is_metered(r.offtake),
+            Some(reading) => {
+                let metered = 0..=MOST_ENERGY;
+                metered.contains(&reading.injection.0) && metered.contains(&reading.offtake.0)
+            }
             None => true,
         }
     }
@@ -51,47 +39,35 @@ impl Bounded for Option<Reading> {
 impl Bounded for Outside {
     ghost within = { outside_fits };
 
-    ghost unset = { no_outside };
-
     fn fits(&self) -> bool {
-        is_scheduled(self.exchange) && is_scheduled(self.correction)
+        let scheduled = -MOST_ENERGY..=MOST_ENERGY;
+        scheduled.contains(&self.exchange.0) && scheduled.contains(&self.correction.0)
     }
 }
 
 impl Bounded for Mills {
     ghost within = { amount_fits };
 
-    ghost unset = { no_mills };
-
     fn fits(&self) -> bool {
-        -MOST_MILLS <= self.0 && self.0 <= MOST_MILLS
+        (-MOST_MILLS..=MOST_MILLS).contains(&self.0)
     }
 }
 
-// Whether each of the first `used` items is within its limits.
-pub(crate) fn all_fit<T: Bounded>(items: &[T], used: usize) -> bool
-    requires { used ≤ length items.now }
-    ensures { Decides result ((i : ℕ) → i < used → T.within (slice_index_or items.now i T.unset) ≡ true) }
+// Whether each of the first `count` figures is within its limits.
+pub(crate) fn all_fit<T: Bounded>(figures: &[T], count: usize) -> bool
+    ensures { IsTrue result ↔ All (λ x. T.within x ≡ true) (take count figures.now) }
 {
-    for i in 0..used {
-        if !items[i].fits() {
-            return false;
-        }
-    }
-    true
+    figures.iter().take(count).all(|figure| figure.fits())
 }
 
-// Whether each of the first `width` items of each of the first `rows` rows of 100 is within its limits.
-pub(crate) fn rows_fit<T: Bounded>(items: &[T], rows: usize, width: usize) -> bool
-    requires { (rows * 100 ≤ length items.now) × (width ≤ 100) }
-    ensures { Decides result ((i : ℕ) → i < rows → (q : ℕ) → q < width → T.within (slice_index_or items.now (i * 100 + q) T.unset) ≡ true) }
+// Whether each of the first `width` figures of each of the first `rows` rows is within its limits.
+pub(crate) fn rows_fit<T: Bounded>(figures: &[T], rows: usize, width: usize) -> bool
+    requires { rows * 100 ≤ length figures.now }
+    ensures { IsTrue result ↔ ((i : ℕ) → i < rows → All (λ x. T.within x ≡ true) (take width (take 100 (drop (i * 100) figures.now)))) }
 {
-    for i in 0..rows {
-        for q in 0..width {
-            if !items[i * 100 + q].fits() {
-                return false;
-            }
-        }
-    }
-    true
+    figures.chunks(ROW).take(rows).all(
+        |row| -> bool
+            ensures { IsTrue result ↔ All (λ x. T.within x ≡ true) (take width row.entry.now) }
+        { all_fit(row, width) },
+    )
 }

@@ -2,7 +2,7 @@
 #![tactic(auto)]
 
 mod bounded;
-mod marks;
+mod number_set;
 mod numbered;
 mod order;
 mod readiness;

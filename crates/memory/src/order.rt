@@ -1,12 +1,12 @@
 // Whether memory has its sizes, and whether it is in order: one pass over each part.
-ghost use Rattle.std.specs.Prelude.{◌≡◌, ℕ, ◌<◌, ◌≤◌, true, length, get_or, Decides, slice_index_or};
-ghost use Rattle.memory.specs.Held.{held, no_point, no_notice};
-ghost use Rattle.memory.specs.Order.{Sized, RegistersPass, FiguresPass, in_order, knows_access, point_fits, notice_fits};
-ghost use Rattle.memory.specs.Tables.{marked};
+ghost use Rattle.std.specs.Prelude.{◌≡◌, ◌↔◌, true, length, IsTrue, All};
+ghost use Rattle.memory.specs.Held.{held, point_numbers, notice_numbers};
+ghost use Rattle.memory.specs.NumberSets.{has};
+ghost use Rattle.memory.specs.Order.{Sized, RegistersPass, FiguresPass, is_access, knows_access, point_fits, notice_fits};
 ghost use Rattle.register.specs.Numbers.{Distinct};
 
 use crate::bounded::{all_fit, rows_fit};
-use crate::marks::{NUMBERS, mark_access, marks};
+use crate::number_set::NumberSet;
 use crate::types::*;
 
 // The most places that each register may have.
@@ -21,7 +21,7 @@ const MOST_RATE: u16 = 1_000;
 
 // Whether memory has its sizes.
 pub(crate) fn has_sizes(extent: &Extent, memory: &Memory) -> bool
-    ensures { Decides result (Sized extent.now (held memory.now)) }
+    ensures { IsTrue result ↔ Sized extent.now (held memory.now) }
 {
     extent.parties <= memory.parties.len()
         && memory.parties.len() <= MOST_PARTIES
@@ -37,109 +37,79 @@ pub(crate) fn has_sizes(extent: &Extent, memory: &Memory) -> bool
         && memory.bills.len() == memory.parties.len()
 }
 
-fn point_fits(point: &Point, parties: &[bool; NUMBERS], access: &[bool; NUMBERS]) -> bool
-    ensures { result ≡ point_fits (marked parties.now) (marked access.now) point.now }
-{
-    parties[point.party as usize]
-        && if point.head == 0 {
-            point.rate <= MOST_RATE
-        } else {
-            access[point.head as usize] && point.rate == 0
-        }
-}
-
-fn points_fit(
-    points: &[Point],
-    used: usize,
-    parties: &[bool; NUMBERS],
-    access: &[bool; NUMBERS],
-) -> bool
-    requires { used ≤ length points.now }
-    ensures { Decides result ((x : ℕ) → x < used → point_fits (marked parties.now) (marked access.now) (slice_index_or points.now x no_point) ≡ true) }
-{
-    for i in 0..used {
-        if !point_fits(&points[i], parties, access) {
-            return false;
-        }
+impl Point {
+    // Whether it is an access point, and no delivery point.
+    pub(crate) fn is_access(&self) -> bool
+        ensures { result ≡ is_access self.now }
+    {
+        self.head == 0
     }
-    true
-}
 
-fn notice_fits(notice: &NoticeRecord, quarters: u8, parties: &[bool; NUMBERS]) -> bool
-    ensures { result ≡ notice_fits (marked parties.now) quarters notice.now }
-{
-    parties[notice.trade.sender as usize]
-        && parties[notice.trade.partner as usize]
-        && notice.trade.is_lawful(quarters)
-}
-
-fn notices_fit(
-    notices: &[NoticeRecord],
-    used: usize,
-    quarters: u8,
-    parties: &[bool; NUMBERS],
-) -> bool
-    requires { used ≤ length notices.now }
-    ensures { Decides result ((j : ℕ) → j < used → notice_fits (marked parties.now) quarters (slice_index_or notices.now j no_notice) ≡ true) }
-{
-    for i in 0..used {
-        if !notice_fits(&notices[i], quarters, parties) {
-            return false;
-        }
+    fn fits(&self, parties: &NumberSet, access_points: &NumberSet) -> bool
+        ensures { result ≡ point_fits (has parties.now) (has access_points.now) self.now }
+    {
+        parties.contains(self.party)
+            && if self.is_access() {
+                self.rate <= MOST_RATE
+            } else {
+                access_points.contains(self.head) && self.rate == 0
+            }
     }
-    true
 }
 
-// Whether the first `used` points are in order, where the table has the parties.
-fn points_in_order(points: &[Point], used: usize, parties: &[bool; NUMBERS]) -> bool
-    requires { used ≤ length points.now }
-    ensures { Decides result (Distinct (λ k. (get_or points.now k no_point).number) used × ((x : ℕ) → x < used → point_fits (marked parties.now) (knows_access used points.now) (slice_index_or points.now x no_point) ≡ true)) }
+impl NoticeRecord {
+    fn fits(&self, quarters: u8, parties: &NumberSet) -> bool
+        ensures { result ≡ notice_fits (has parties.now) quarters self.now }
+    {
+        parties.contains(self.trade.sender)
+            && parties.contains(self.trade.partner)
+            && self.trade.is_lawful(quarters)
+    }
+}
+
+// Whether the points in use are in order, where the set has the parties.
+fn points_in_order(points: &[Point], parties: &NumberSet) -> bool
+    ensures { IsTrue result ↔ (Distinct (point_numbers points.now) (length points.now) × All (λ p. point_fits (has parties.now) (knows_access (length points.now) points.now) p ≡ true) points.now) }
 {
-    let mut numbers = [false; NUMBERS];
-    let mut access = [false; NUMBERS];
-    mark_access(points, used, &mut access);
-    marks(points, used, &mut numbers) && points_fit(points, used, parties, &access)
+    let access_points = NumberSet::of_access_points(points);
+    NumberSet::of_distinct(points).is_some()
+        && points
+            .iter()
+            .all(|point| point.fits(parties, &access_points))
 }
 
-// Whether the first `used` notices are in order, where the table has the parties.
-fn notices_in_order(
-    notices: &[NoticeRecord],
-    used: usize,
-    quarters: u8,
-    parties: &[bool; NUMBERS],
-) -> bool
-    requires { used ≤ length notices.now }
-    ensures { Decides result (Distinct (λ k. (get_or notices.now k no_notice).trade.number) used × ((j : ℕ) → j < used → notice_fits (marked parties.now) quarters (slice_index_or notices.now j no_notice) ≡ true)) }
+// Whether the notices in use are in order, where the set has the parties.
+fn notices_in_order(notices: &[NoticeRecord], quarters: u8, parties: &NumberSet) -> bool
+    ensures { IsTrue result ↔ (Distinct (notice_numbers notices.now) (length notices.now) × All (λ n. notice_fits (has parties.now) quarters n ≡ true) notices.now) }
 {
-    let mut numbers = [false; NUMBERS];
-    marks(notices, used, &mut numbers) && notices_fit(notices, used, quarters, parties)
+    NumberSet::of_distinct(notices).is_some()
+        && notices.iter().all(|notice| notice.fits(quarters, parties))
 }
 
-fn registers_in_order(extent: &Extent, memory: &Memory) -> bool
+// Whether the registers of memory, which has its sizes, are in order.
+pub(crate) fn registers_in_order(extent: &Extent, memory: &Memory) -> bool
     requires { Sized extent.now (held memory.now) }
-    ensures { Decides result (RegistersPass extent.now (held memory.now)) }
+    ensures { IsTrue result ↔ RegistersPass extent.now (held memory.now) }
 {
-    let mut parties = [false; NUMBERS];
-    marks(memory.parties, extent.parties, &mut parties)
-        && points_in_order(memory.points, extent.points, &parties)
-        && notices_in_order(memory.notices, extent.notices, extent.day.count, &parties)
+    let Some(parties) = NumberSet::of_distinct(&memory.parties[..extent.parties]) else {
+        return false;
+    };
+    points_in_order(&memory.points[..extent.points], &parties)
+        && notices_in_order(
+            &memory.notices[..extent.notices],
+            extent.day.count,
+            &parties,
+        )
 }
 
-fn figures_in_order(extent: &Extent, memory: &Memory) -> bool
+// Whether the figures of memory, which has its sizes, are in order.
+pub(crate) fn figures_in_order(extent: &Extent, memory: &Memory) -> bool
     requires { Sized extent.now (held memory.now) }
-    ensures { Decides result (FiguresPass extent.now (held memory.now)) }
+    ensures { IsTrue result ↔ FiguresPass extent.now (held memory.now) }
 {
-    let width = extent.day.count as usize;
+    let width = usize::from(extent.day.count);
     rows_fit(memory.readings, extent.points, width)
         && rows_fit(memory.outside, extent.parties, width)
         && all_fit(memory.amounts, extent.parties)
         && all_fit(memory.billed, extent.parties)
-}
-
-// Whether memory, which has its sizes, is in order.
-pub(crate) fn in_order(extent: &Extent, memory: &Memory) -> bool
-    requires { Sized extent.now (held memory.now) }
-    ensures { result ≡ in_order extent.now (held memory.now) }
-{
-    registers_in_order(extent, memory) && figures_in_order(extent, memory)
 }

@@ -4,13 +4,14 @@ use notice::Trade;
 use units::{Kwh, Mills};
 
 // A balance responsible party.
-#[derive(Clone, Copy)]
+#[derive(Clone, Copy, PartialEq, Eq, Default, Debug)]
 pub struct Party {
     pub number: u16,
 }
 
 // A metering point. Head 0 marks an access point; another head names the access point that this delivery point lies behind.
-#[derive(Clone, Copy)]
+// It is the rule book's number and no enum: an owner keeps its records by it, and may bring any.
+#[derive(Clone, Copy, PartialEq, Eq, Default, Debug)]
 pub struct Point {
     pub number: u16,
     // The party in whose balancing perimeter the point is: its carrying party.
@@ -21,15 +22,16 @@ pub struct Point {
 }
 
 // What has become of a lodged notice. Only a confirmed one counts.
-#[derive(Clone, Copy)]
+#[derive(Clone, Copy, PartialEq, Eq, Default, Debug)]
 pub enum Stage {
+    #[default]
     Pending,
     Confirmed,
     Withdrawn,
 }
 
 // A lodged notice.
-#[derive(Clone, Copy)]
+#[derive(Clone, Copy, PartialEq, Eq, Default, Debug)]
 pub struct NoticeRecord {
     // The trade as it was lodged.
     pub trade: Trade,
@@ -37,14 +39,14 @@ pub struct NoticeRecord {
 }
 
 // A metering reading of a point in a quarter-hour.
-#[derive(Clone, Copy)]
+#[derive(Clone, Copy, PartialEq, Eq, Debug)]
 pub struct Reading {
     pub injection: Kwh,
     pub offtake: Kwh,
 }
 
 // The outside figures of a party in a quarter-hour.
-#[derive(Clone, Copy)]
+#[derive(Clone, Copy, PartialEq, Eq, Default, Debug)]
 pub struct Outside {
     // Net import, as scheduled with other areas: import is positive.
     pub exchange: Kwh,
@@ -52,8 +54,8 @@ pub struct Outside {
     pub correction: Kwh,
 }
 
-// The day, and how many places of each register hold its records.
-#[derive(Clone, Copy)]
+// The day, and how many places of each register hold its records. The places are lent and fixed in number, so their use is counted here.
+#[derive(Clone, Copy, PartialEq, Eq, Debug)]
 pub struct Extent {
     pub day: DeliveryDay,
     pub parties: usize,
@@ -61,7 +63,8 @@ pub struct Extent {
     pub notices: usize,
 }
 
-// What the owner brings at each call: one lent slice for each kind. The figures of place k in quarter-hour q stand at 100 * k + (q - 1).
+// What the owner brings at each call. The figures of place k in quarter-hour q stand at 100 * k + (q - 1). The parts and their sizes
+// are the rule book's, so there is a slice for each and no struct for each party.
 #[derive(Drop)]
 pub struct Memory<'a> {
     pub parties: &'a mut [Party],

@@ -8,22 +8,17 @@ impl Stage {
     pub fn is_pending(self) -> bool
         ensures { result ≡ is_pending self }
     {
-        match self {
-            Stage::Pending => true,
-            Stage::Confirmed | Stage::Withdrawn => false,
-        }
+        self == Stage::Pending
     }
 }
 
-// The number of pending notices among the first `used` places.
+// The number of pending notices among the first `used` places, or among all where there are fewer: a slice of them would ask callers that there are so many.
 pub fn pending(notices: &[NoticeRecord], used: usize) -> usize
     ensures { result ≡ count_pending used notices.now }
 {
-    let mut count = 0;
-    for i in 0..used.min(notices.len()) {
-        if notices[i].stage.is_pending() {
-            count += 1;
-        }
-    }
-    count
+    notices
+        .iter()
+        .take(used)
+        .filter(|notice| notice.stage.is_pending())
+        .count()
 }

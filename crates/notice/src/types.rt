@@ -1,9 +1,10 @@
 // What a notice of a trade says, as it is packed and as it is meant.
 
-// The ten packed fields as plain integers. Any values may stand here; writing and reading say which are refused.
+// The ten packed fields as plain integers. Any values may stand here, so that writing and reading can refuse them; `Notice` is what they
+// mean.
 #[derive(Clone, Copy, PartialEq, Eq, Debug)]
 pub struct Fields {
-    // 4 bits: 1 a lodging, 2 a confirmation, 3 a withdrawal.
+    // 4 bits, the form's number: 1 a lodging, 2 a confirmation, 3 a withdrawal.
     pub kind: u8,
     // 4 bits that are 0.
     pub spare: u8,
@@ -13,7 +14,7 @@ pub struct Fields {
     pub sender: u16,
     // 16 bits: the party that it trades with, its counterparty.
     pub partner: u16,
-    // 1 bit: 0 the sender sells, 1 it buys.
+    // 1 bit, the form's own: 0 the sender sells, 1 it buys.
     pub buys: bool,
     // 7 bits: the first quarter-hour of the run, counted from 1.
     pub first: u8,
@@ -26,14 +27,15 @@ pub struct Fields {
 }
 
 // Whether the sender of a notice sells or buys.
-#[derive(Clone, Copy, PartialEq, Eq, Debug)]
+#[derive(Clone, Copy, PartialEq, Eq, Default, Debug)]
 pub enum Direction {
+    #[default]
     Sells,
     Buys,
 }
 
 // A trade as its sender states it: so many kWh in each quarter-hour from the first to the last, sold to or bought from the partner.
-#[derive(Clone, Copy, PartialEq, Eq, Debug)]
+#[derive(Clone, Copy, PartialEq, Eq, Default, Debug)]
 pub struct Trade {
     pub number: u16,
     pub sender: u16,

@@ -1,6 +1,9 @@
 -- What the place of a number says.
-use Rattle.std.proofs.Common.{◌≡◌, ℕ, zero, suc, Bool, true, false, cond, ◌||◌, eqb, is_some, Some, None, Option, sym, refl, ap, ◌∙◌, ⊎_elim, arith, MatchOption}
+use Rattle.std.proofs.Common.{◌≡◌, ℕ, zero, suc, ◌<◌, min, Bool, true, false, cond, ◌||◌, eqb, ◌≢◌, List, length, take, get_or, is_some, Some, None, Option, sym, refl, ap, ◌∙◌, ⊎_elim, arith, length-take, MatchOption}
 use Rattle.std.proofs.lemmas.Bool.{cases_order, cases_eq, eqb-true, eqb-false}
+use Rattle.std.proofs.lemmas.List.{get_or-take}
+use Rattle.std.specs.List.{AllWithin, HoldsAt}
+use Rattle.register.specs.Entering.{numbers}
 use Rattle.register.specs.Numbers.{place_of, or_else, knows, Unborne, FirstAt}
 
 -- one place more
@@ -33,3 +36,17 @@ pub known_place : (used : ℕ) (f : ℕ → ℕ) (n : ℕ) → is_some (place_of
 unfolding knows place_of
 known_place zero f n = refl
 known_place (suc i) f n = one_more (place_of i f n) (eqb (f i) n) (knows i f n) i (known_place i f n)
+
+-- what a search over the records in use found, said of their numbers
+module _ {R : Type 0} (numeral : R → ℕ) (unset : R) (n : ℕ) (xs : List R) (used : ℕ) where
+  abbrev ys : List R
+  ys = take used xs
+
+  in_front : (k : ℕ) → k < min used (length xs) → numbers numeral unset xs k ≡ numeral (get_or ys k unset)
+  in_front k l = ap numeral (sym (get_or-take used xs k unset (omega arith)))
+
+  pub searched : (o : Option ℕ) → MatchOption o (AllWithin (λ r. numeral r ≢ n) ys 0 (length ys)) (λ i. (i < length ys) × HoldsAt (λ r. numeral r ≡ n) ys i × AllWithin (λ r. numeral r ≢ n) ys 0 i) → MatchOption o (Unborne n (numbers numeral unset xs) (min used (length xs))) (FirstAt n (numbers numeral unset xs) (min used (length xs)))
+  searched None f = λ k l s. f k unset (omega arith) (omega (arith, length-take used xs)) (sym (in_front k l) ∙ s)
+  searched (Some i) f =
+      let h : i < min used (length xs) = omega (arith, f.0, length-take used xs) in
+      (h, in_front i h ∙ f.1 unset, λ k l s. f.2 k unset (omega arith) l (sym (in_front k (omega arith)) ∙ s))

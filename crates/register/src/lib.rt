@@ -4,5 +4,5 @@
 mod numbered;
 mod register;
 
-pub use numbered::Numbered;
+pub use numbered::{NO_NUMBER, Numbered};
 pub use register::{Register, find_place};

@@ -1,5 +1,5 @@
 // The register: find a record's place by number, enter one after the last, rewrite one.
-ghost use Rattle.std.specs.Prelude.{◌≡◌, ℕ, ◌+◌, ◌<◌, ◌≤◌, min, length, is_ok, if◌then◌else◌, MatchOption, nat_lt, slice_set};
+ghost use Rattle.std.specs.Prelude.{◌≡◌, ◌+◌, is_ok, if◌then◌else◌, MatchOption, nat_lt, slice_set};
 ghost use Rattle.refusal.specs.Judging.{judged};
 ghost use Rattle.register.specs.Entering.{numbers, in_use, entry_faults};
 ghost use Rattle.register.specs.Numbers.{Unborne, FirstAt, knows, place_of};
@@ -7,7 +7,8 @@ ghost use Rattle.register.specs.Numbers.{Unborne, FirstAt, knows, place_of};
 use crate::numbered::Numbered;
 use refusal::Fault;
 
-// The places of one kind of record, lent by their owner, and how many of them hold records.
+// The places of one kind of record, lent by their owner, and how many of them hold records: the places are fixed in number, so their
+// use is counted beside them.
 #[derive(Drop)]
 pub struct Register<'a, R> {
     pub places: &'a mut [R],
@@ -63,22 +64,13 @@ impl<'a, R: Numbered + Copy> Register<'a, R> {
     }
 }
 
-// The same search over a slice.
+// The same search over a slice, of which the first `used` places hold records, or all where there are fewer.
 pub fn find_place<R: Numbered>(places: &[R], used: usize, number: u16) -> Option<usize>
     ensures place { result ≡ place_of (in_use R.numeral R.unset used places.now) (numbers R.numeral R.unset places.now) number }
     ensures first { MatchOption result (Unborne number (numbers R.numeral R.unset places.now) (in_use R.numeral R.unset used places.now)) (λ i. FirstAt number (numbers R.numeral R.unset places.now) (in_use R.numeral R.unset used places.now) i) }
 {
-    first_place(places, used.min(places.len()), number)
-}
-
-fn first_place<R: Numbered>(places: &[R], used: usize, number: u16) -> Option<usize>
-    requires { used ≤ length places.now }
-    ensures { MatchOption result (Unborne number (numbers R.numeral R.unset places.now) used) (λ i. FirstAt number (numbers R.numeral R.unset places.now) used i) }
-{
-    for i in 0..used {
-        if places[i].number() == number {
-            return Some(i);
-        }
-    }
-    None
+    places
+        .iter()
+        .take(used)
+        .position(|record| record.number() == number)
 }

@@ -1,7 +1,6 @@
-use Rattle.std.proofs.Common.{eqb, [], ◌∷◌, ◌++◌, sym, refl, ap, ◌∙◌, subst}
-use Rattle.day.proofs.Admitted.{admits_as}
-use Rattle.day.proofs.Concluded.{Kept, granted, refused_first, refused_later, same_outcome}
-use Rattle.day.proofs.PartyKept.{party_kept_passed}
+use Rattle.std.proofs.Common.{eqb, [], ◌∷◌, ◌++◌, sym, refl, ap, ◌∙◌}
+use Rattle.day.proofs.Admitted.{admits_as, kept_then}
+use Rattle.day.proofs.Concluded.{granted, refused_first, refused_later, same_outcome}
 use Rattle.day.proofs.types.OpenDay.enter_party.Goals as goal
 use Rattle.day.specs.Entering.{entering_faults, party_entered, party_faults}
 use Rattle.day.specs.Outcome.{Outcome}
@@ -50,13 +49,6 @@ returns c =
     let a = c.in_ok-append_party.ensures in
     let front = passed tt _ (memory_faults e m) (sym c.ready.ensures.answer ∙ c.in_ok-ready.was) in
     let back = passed tt _ (party_faults e.parties m.parties n) (sym c.append_party.ensures.answer ∙ c.in_ok-append_party.was) in
-    let named = c.if-number-eq-NO_NUMBER.false in
-    let grant = granted e m (entering_faults e m n) (party_entered e m n) (ne_eqb n 0 named, passed_both (memory_faults e m) (party_faults e.parties m.parties n) front back) in
-    let ready = c.in_ok-ready.ensures.meaning in
-    let left_is = same_outcome _ _ refl (sym a.extent) (sym a.parties) refl refl refl (sym a.outside) refl (sym a.amounts) (sym a.billed) refl in
-    let out = grant ∙ left_is in
-    record {
-      outcome = out;
-      kept = subst (λ (o : Outcome). Kept o.extent o.memory) left_is (party_kept_passed e m n ready.0 ready.1 named back);
-      admits = admits_as e m n _ (ap (λ (o : Outcome). o.answer) out);
-    }
+    let grant = granted e m (entering_faults e m n) (party_entered e m n) (ne_eqb n 0 c.if-number-eq-NO_NUMBER.false, passed_both (memory_faults e m) (party_faults e.parties m.parties n) front back) in
+    let out = grant ∙ same_outcome _ _ refl (sym a.extent) (sym a.parties) refl refl refl (sym a.outside) refl (sym a.amounts) (sym a.billed) refl in
+    record { outcome = out; kept = kept_then e m n _ out; admits = admits_as e m n _ (ap (λ (o : Outcome). o.answer) out) }

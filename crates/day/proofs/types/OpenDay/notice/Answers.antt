@@ -1,15 +1,13 @@
-use Rattle.std.proofs.Common.{◌∷◌, sym, refl, ap, ◌∙◌, subst}
+use Rattle.std.proofs.Common.{sym, refl, ap, ◌∙◌, subst}
 use Rattle.day.proofs.Answered.{answers_as, lodges_as}
 use Rattle.day.proofs.Concluded.{Kept, granted, refused_first, refused_later, same_outcome}
 use Rattle.day.proofs.NoticeKept.{notice_kept}
 use Rattle.day.proofs.types.OpenDay.notice.Goals as goal
-use Rattle.day.specs.Noticing.{after_reading, kind_faults, noticed, party_unknown, state_faults}
+use Rattle.day.specs.Noticing.{after_reading, notice_faults, noticed, state_faults}
 use Rattle.day.specs.Outcome.{Outcome, concluded}
 use Rattle.memory.specs.Held.{held}
 use Rattle.memory.specs.Ready.{memory_faults}
-use Rattle.notice.specs.Form.{stated}
 use Rattle.refusal.proofs.Judging.{passed, passed_both}
-use Rattle.refusal.specs.declared.fault.Fault.TheVariants.{UnknownParty}
 use Rattle.std.proofs.lemmas.Result.{err_from_is_err_and}
 
 pub returns-in_err-notice : goal.returns-in_err-notice
@@ -26,7 +24,7 @@ returns-in_err-ready c =
     let e = c.args.self.now.extent in
     let m = held c.args.memory in
     let n = c.in_ok-notice.notice in
-    let tests = (party_unknown e.parties m.parties (stated n), UnknownParty) ∷ kind_faults e.notices m.notices n in
+    let tests = notice_faults e m n in
     let out =
     ap (λ r. concluded e m (after_reading e m r)) (sym c.read.ensures.answer ∙ c.in_ok-notice.was) ∙
     refused_first e m (memory_faults e m) tests (noticed e m n) _ (sym c.in_err-ready.ensures.answer) in
@@ -40,7 +38,7 @@ returns-in_err-record_notice c =
     let n = c.in_ok-notice.notice in
     let a = c.in_err-record_notice.ensures in
     let front = passed tt _ (memory_faults e m) (sym c.ready.ensures.answer ∙ c.in_ok-ready.was) in
-    let tests = (party_unknown e.parties m.parties (stated n), UnknownParty) ∷ kind_faults e.notices m.notices n in
+    let tests = notice_faults e m n in
     let out =
     ap (λ r. concluded e m (after_reading e m r)) (sym c.read.ensures.answer ∙ c.in_ok-notice.was) ∙
     refused_later e m (memory_faults e m) tests (noticed e m n) _ front (sym a.answer) ∙
@@ -54,7 +52,7 @@ returns c =
     let n = c.in_ok-notice.notice in
     let a = c.in_ok-record_notice.ensures in
     let front = passed tt _ (memory_faults e m) (sym c.ready.ensures.answer ∙ c.in_ok-ready.was) in
-    let tests = (party_unknown e.parties m.parties (stated n), UnknownParty) ∷ kind_faults e.notices m.notices n in
+    let tests = notice_faults e m n in
     let back = passed tt _ tests (sym c.record_notice.ensures.answer ∙ c.in_ok-record_notice.was) in
     let ready = c.in_ok-ready.ensures.meaning in
     let left_is = same_outcome _ _ refl (sym a.extent) refl refl (sym a.notices) refl refl refl refl refl refl in
