@@ -1,4 +1,4 @@
-// The memory of a day as its owner keeps it.
+// The memory of a day as its owner keeps it: a vector for each part, since a memory lends a slice of each.
 use memory::{NoticeRecord, Outside, Party, Point, Reading};
 use units::{Kwh, Mills};
 
@@ -13,4 +13,12 @@ pub struct Store {
     pub(crate) amounts: Vec<Mills>,
     pub(crate) billed: Vec<Mills>,
     pub(crate) bills: Vec<Mills>,
+}
+
+// A call upon an open day, with what it is given. A closure in its place is not covered by the check, since it is passed a memory that
+// its caller gets back.
+#[derive(Clone, Copy)]
+pub(crate) enum Call<'a> {
+    EnterParty(u16),
+    Notice(&'a [u8]),
 }
