@@ -21,7 +21,7 @@ pub(crate) fn field(bits: u128, width: u32, low: u32) -> u128
     bits >> low & ((1 << width) - 1)
 }
 
-// The check of up to 12 bytes: each times its place from 1, summed, modulo 257.
+// The check of up to 12 bytes: each times its place from 1, summed, modulo 257. A place is below 12 where it is narrowed.
 pub(crate) fn check(bytes: &[u8]) -> u16
     requires { length bytes.now ≤ 12 }
     ensures { result ≡ check_of bytes.now }
@@ -29,15 +29,15 @@ pub(crate) fn check(bytes: &[u8]) -> u16
     let sum: u16 = bytes
         .iter()
         .enumerate()
-        .map(|(i, b)| (i as u16 + 1) * *b as u16)
+        .map(|(i, b)| (i as u16 + 1) * u16::from(*b))
         .sum();
     sum % 257
 }
 
-// The number that up to 12 bytes make, most significant first.
+// The number that up to 12 bytes make, most significant first. `from_be_bytes` would ask for four more bytes in front of them.
 pub(crate) fn gather(bytes: &[u8]) -> u128
     requires { length bytes.now ≤ 12 }
     ensures { result ≡ gathered 0 bytes.now }
 {
-    bytes.iter().fold(0, |bits, b| bits << 8 | *b as u128)
+    bytes.iter().fold(0, |bits, b| bits << 8 | u128::from(*b))
 }

@@ -2,6 +2,7 @@
 #![tactic(auto)]
 
 mod bits;
+mod convert;
 mod mirror;
 mod read;
 mod types;

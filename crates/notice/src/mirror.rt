@@ -1,5 +1,5 @@
 // When a notice answers another.
-ghost use Rattle.std.specs.Prelude.{◌≡◌, Decides};
+ghost use Rattle.std.specs.Prelude.{◌≡◌, ◌↔◌, IsTrue};
 ghost use Rattle.notice.specs.Mirror.{mirror, same_trade, turned};
 
 use crate::types::*;
@@ -28,10 +28,10 @@ impl Trade {
         }
     }
 
-    // Whether two trades are one.
+    // Whether two trades are one. It stands beside `==`, which says what it computes, and not that trades which are equal are one.
     pub fn is(self, other: Trade) -> bool
         ensures test { result ≡ same_trade self other }
-        ensures meaning { Decides result (self ≡ other) }
+        ensures meaning { IsTrue result ↔ (self ≡ other) }
     {
         self == other
     }

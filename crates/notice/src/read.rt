@@ -12,7 +12,8 @@ use crate::types::*;
 use crate::write::CHECKED;
 use refusal::Fault;
 
-// The fields that stand in twelve bytes.
+// The fields that stand in twelve bytes. Each is cut to its width before it is narrowed, so that `try_from` would answer an error that
+// cannot come.
 fn unpack(bits: u128) -> Fields
     ensures { result ≡ fields_from (split layout bits) }
 {

@@ -20,9 +20,6 @@ impl Line {
     pub fn refusal(&self) -> u8
         ensures { result ≡ refusal_number self.now.answer }
     {
-        match self.answer {
-            Ok(()) => 0,
-            Err(fault) => fault.number(),
-        }
+        self.answer.err().map_or(0, |fault| fault.number())
     }
 }

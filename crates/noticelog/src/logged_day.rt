@@ -1,5 +1,5 @@
 // The day that the notices are for.
-ghost use Rattle.std.specs.Prelude.{◌≡◌, ◌≤◌, IfOk};
+ghost use Rattle.std.specs.Prelude.{◌≤◌, IfOk};
 ghost use Rattle.day.specs.Days.{open_extent};
 ghost use Rattle.noticelog.specs.Start.{Begun, NumberedParties, Started};
 ghost use Rattle.store.specs.Stored.{stored};

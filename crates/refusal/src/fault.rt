@@ -1,4 +1,5 @@
-// The fault that a call answers: a case for each refusal.
+// The fault that a call answers: a case for each refusal, with the values that it is given out with under their names. Three cases have the same
+// three: a struct of them would be one more name where they are made and matched. A record number is 0 where none is meant, as it is given out.
 
 #[derive(Clone, Copy, PartialEq, Eq, Debug)]
 pub enum Fault {
