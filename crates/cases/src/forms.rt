@@ -109,13 +109,11 @@ fn with_check(kind_byte: u8, last: u8, quantity: u8) -> [u8; 14] {
     bytes[8] = (last & 0x7F) << 1;
     bytes[10] = 0;
     bytes[11] = quantity;
-    let mut sum: u32 = 0;
-    for i in 0..12u32 {
-        sum = sum.wrapping_add((i + 1) * bytes[i as usize] as u32);
+    let mut sum: u16 = 0;
+    for (place, byte) in (1..=12u16).zip(bytes.iter()) {
+        sum = sum.wrapping_add(place.wrapping_mul(u16::from(*byte)));
     }
-    let check = sum % 257;
-    bytes[12] = (check / 256) as u8;
-    bytes[13] = (check % 256) as u8;
+    bytes[12..].copy_from_slice(&(sum % 257).to_be_bytes());
     bytes
 }
 

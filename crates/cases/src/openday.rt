@@ -25,9 +25,7 @@ struct Setup {
 impl Setup {
     // Day 2 with parties 1 and 2, and places for so many notices.
     fn open(heap: Global, notices: u16) -> Result<Setup, AllocError> {
-        let Ok(mut day) = OpenDay::open(2, 96) else {
-            return Err(AllocError);
-        };
+        let mut day = OpenDay::open(2, 96).unwrap();
         let mut store = Store::new(heap, 2, 0, notices)?;
         let _ = store.enter_party(&mut day, 1);
         let _ = store.enter_party(&mut day, 2);
@@ -38,10 +36,8 @@ impl Setup {
     fn send(&mut self, notice: Notice) -> (u8, usize) {
         let mut bytes = [0; 14];
         let _ = Fields::from(notice).write(&mut bytes);
-        let number = match self.store.notice(&mut self.day, &bytes) {
-            Ok(()) => 0,
-            Err(fault) => fault.number(),
-        };
+        let refusal = self.store.notice(&mut self.day, &bytes).err();
+        let number = refusal.map_or(0, |fault| fault.number());
         (number, self.store.pending(&self.day))
     }
 }
@@ -77,9 +73,7 @@ fn entry(
     points: u16,
     notices: u16,
 ) -> Result<Option<Fault>, AllocError> {
-    let Ok(mut day) = OpenDay::open(2, 96) else {
-        return Err(AllocError);
-    };
+    let mut day = OpenDay::open(2, 96).unwrap();
     let mut store = Store::new(heap, parties, points, notices)?;
     Ok(store.enter_party(&mut day, 1).err())
 }
