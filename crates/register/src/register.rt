@@ -31,7 +31,8 @@ impl<'a, R: Numbered + Copy> Register<'a, R> {
         self.find(number).is_some()
     }
 
-    // Enters a record in the place after the last, unless its number is used or there is none.
+    // Enters a record in the place after the last, unless its number is used or there is none. The clause `named` is what a caller of a call that
+    // is lent a struct of lent places needs, to have its own places back.
     pub fn enter(&mut self, entry: R) -> Result<(), Fault>
         ensures named { self.new.places.ghost_name ≡ self.old.places.ghost_name }
         ensures answer { result ≡ judged (entry_faults R.numeral R.unset self.old.used self.old.places.now entry) tt }

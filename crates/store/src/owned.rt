@@ -35,7 +35,7 @@ impl Store {
         })
     }
 
-    // Enters a party upon the day.
+    // Enters a party upon the day. A day moves from state to state while the store stays, so a call is given both.
     pub fn enter_party(&mut self, day: &mut OpenDay, number: u16) -> Result<(), Fault>
         ensures { entering_party (open_extent day.old) (stored self.old) number ≡ record { answer = result; extent = open_extent day.new; memory = stored self.new } }
     {
