@@ -11,7 +11,7 @@ impl DeliveryDay {
     pub fn check(number: u16, count: u8) -> Result<DeliveryDay, Fault>
         ensures { Checked number count result }
     {
-        if number == 0 || number > LAST_DAY {
+        if !(1..=LAST_DAY).contains(&number) {
             return Err(Fault::Day);
         }
         match count {

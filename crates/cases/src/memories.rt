@@ -10,7 +10,7 @@ const MILLION: i64 = 1_000_000;
 const MOST: i64 = 2_000_000_000_000_000_000;
 
 // Two parties, an access point and a delivery point behind it, and two notices between the parties, alike but for their numbers:
-// every figure is at a limit. Nothing compares or prints a sample.
+// every figure is at a limit. More derives would have no use.
 #[derive(Clone, Copy)]
 struct Sample {
     parties: [Party; 2],

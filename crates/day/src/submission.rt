@@ -37,7 +37,7 @@ impl OpenDay {
     }
 }
 
-// Records a notice that was read, where the memory has its sizes.
+// Records a notice that was read, where the memory has its sizes. It takes slices, and is not the last expression above, as the entry of a party.
 fn record_notice(
     extent: &mut Extent,
     parties: &[Party],
@@ -60,7 +60,8 @@ fn record_notice(
     Ok(())
 }
 
-// Enters the lodging in the register, or moves the record that the notice answers to another stage.
+// Enters the lodging in the register, or moves the record that the notice answers to another stage. The clause `named` is what a caller needs to
+// have its own places back.
 fn record_in(register: &mut Register<NoticeRecord>, notice: Notice) -> Result<(), Fault>
     ensures named { register.new.places.ghost_name ≡ register.old.places.ghost_name }
     ensures answer { result ≡ judged (kind_faults (min register.old.used (length register.old.places.now)) register.old.places.now notice) tt }
@@ -77,7 +78,7 @@ fn record_in(register: &mut Register<NoticeRecord>, notice: Notice) -> Result<()
     }
 }
 
-// Refuses a trade whose sender or partner is not entered.
+// Refuses a trade whose sender or partner is not entered. The count goes to the search, and is no premise.
 fn parties_known(parties: &[Party], used: usize, trade: Trade) -> Result<(), Fault>
     ensures { result ≡ judged ((party_unknown (min used (length parties.now)) parties.now trade, UnknownParty) ∷ []) tt }
 {
@@ -89,7 +90,7 @@ fn parties_known(parties: &[Party], used: usize, trade: Trade) -> Result<(), Fau
     Ok(())
 }
 
-// Moves the pending notice that is lodged as this trade to another stage.
+// Moves the pending notice that is lodged as this trade to another stage, in the places that it is lent (`named`).
 fn answer(register: &mut Register<NoticeRecord>, trade: Trade, stage: Stage) -> Result<(), Fault>
     ensures named { register.new.places.ghost_name ≡ register.old.places.ghost_name }
     ensures answer { result ≡ judged (answer_faults (min register.old.used (length register.old.places.now)) register.old.places.now trade) tt }

@@ -2,7 +2,7 @@
 ghost use Rattle.std.specs.Prelude.{◌≡◌, ℕ, ◌*◌, ◌<◌, ◌≤◌, ◌↔◌, Bool, true, length, take, drop, IsTrue, All};
 ghost use Rattle.memory.specs.Limits.{reading_fits, outside_fits, amount_fits};
 
-use crate::types::{Outside, Reading};
+use crate::types::{Outside, ROW, Reading};
 use units::{Kwh, Mills};
 
 // The most kWh that a reading or, either way, an outside figure may have in a quarter-hour.
@@ -10,9 +10,6 @@ const MOST_ENERGY: i64 = 1_000_000;
 
 // The greatest size of an amount or a sum billed.
 const MOST_MILLS: i64 = 2_000_000_000_000_000_000;
-
-// The figures of a record are a row, with a place for each quarter-hour of the longest day.
-pub(crate) const ROW: usize = 100;
 
 // What has limits.
 pub(crate) trait Bounded {
@@ -53,7 +50,7 @@ impl Bounded for Mills {
     }
 }
 
-// Whether each of the first `count` figures is within its limits.
+// Whether each of the first `count` figures, or of all where there are fewer, is within its limits. The count goes to `take`, and is no premise.
 pub(crate) fn all_fit<T: Bounded>(figures: &[T], count: usize) -> bool
     ensures { IsTrue result ↔ All (λ x. T.within x ≡ true) (take count figures.now) }
 {

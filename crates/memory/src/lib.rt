@@ -10,5 +10,5 @@ mod types;
 mod waiting;
 
 pub use readiness::ready;
-pub use types::{Extent, Memory, NoticeRecord, Outside, Party, Point, Reading, Stage};
+pub use types::{Extent, Memory, NoticeRecord, Outside, Party, Point, ROW, Reading, Stage};
 pub use waiting::pending;

@@ -29,9 +29,9 @@ pub(crate) fn has_sizes(extent: &Extent, memory: &Memory) -> bool
         && memory.points.len() <= MOST_POINTS
         && extent.notices <= memory.notices.len()
         && memory.notices.len() <= MOST_NOTICES
-        && memory.readings.len() == memory.points.len() * 100
-        && memory.outside.len() == memory.parties.len() * 100
-        && memory.imbalances.len() == memory.parties.len() * 100
+        && memory.readings.len() == memory.points.len() * ROW
+        && memory.outside.len() == memory.parties.len() * ROW
+        && memory.imbalances.len() == memory.parties.len() * ROW
         && memory.amounts.len() == memory.parties.len()
         && memory.billed.len() == memory.parties.len()
         && memory.bills.len() == memory.parties.len()

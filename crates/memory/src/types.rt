@@ -3,6 +3,9 @@ use calendar::DeliveryDay;
 use notice::Trade;
 use units::{Kwh, Mills};
 
+// The figures of a record are a row, with a place for each quarter-hour of the longest day.
+pub const ROW: usize = 100;
+
 // A balance responsible party.
 #[derive(Clone, Copy, PartialEq, Eq, Default, Debug)]
 pub struct Party {

@@ -21,7 +21,8 @@ pub(crate) fn field(bits: u128, width: u32, low: u32) -> u128
     bits >> low & ((1 << width) - 1)
 }
 
-// The check of up to 12 bytes: each times its place from 1, summed, modulo 257. A place is below 12 where it is narrowed.
+// The check of up to 12 bytes: each times its place from 1, summed, modulo 257. A place, which is below 12, is narrowed: a
+// range beside the bytes would be one iterator more.
 pub(crate) fn check(bytes: &[u8]) -> u16
     requires { length bytes.now ≤ 12 }
     ensures { result ≡ check_of bytes.now }

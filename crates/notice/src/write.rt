@@ -1,9 +1,10 @@
 // Writing: the tests of the ten fields, and their form of fourteen bytes.
-ghost use Rattle.std.specs.Prelude.{◌≡◌, ◌↔◌, IsTrue, OnOk};
+ghost use Rattle.std.specs.Prelude.{◌≡◌, ◌↔◌, [], ◌∷◌, IsTrue, OnOk};
 ghost use Rattle.notice.specs.Form.{notice_of, trade_of, packed, written, layout, listed, filled};
-ghost use Rattle.notice.specs.Lawful.{Lawful, faults, lawful, limits_of};
+ghost use Rattle.notice.specs.Lawful.{Lawful, faults, lawful, limits_of, outside_day};
 ghost use Rattle.notice.specs.Packing.{Fit};
 ghost use Rattle.notice.specs.Promises.{ReadBack, Guarded};
+ghost use Rattle.refusal.specs.declared.fault.Fault.TheVariants.{QuarterHour};
 ghost use Rattle.refusal.specs.Judging.{judged};
 
 use crate::bits::{after, check};
@@ -19,30 +20,34 @@ const MOST_QUARTERS: u8 = 100;
 // The most kWh that a notice may trade in a quarter-hour.
 const MOST_QUANTITY: u32 = 1_000_000;
 
+// The fault of a quarter-hour outside the day. Its height is 0, since no tariff is asked.
+fn outside_day(quarter: u8) -> Fault
+    ensures { result ≡ QuarterHour quarter 0 }
+{
+    Fault::QuarterHour { quarter, height: 0 }
+}
+
+// Refuses a quarter-hour outside a day of so many.
+fn in_day(quarter: u8, quarters: u8) -> Result<(), Fault>
+    ensures { result ≡ judged ((outside_day quarters quarter, QuarterHour quarter 0) ∷ []) tt }
+{
+    if !(1..=quarters).contains(&quarter) {
+        return Err(outside_day(quarter));
+    }
+    Ok(())
+}
+
 // The faults of a trade in a day of so many quarter-hours.
 fn limits(t: Trade, quarters: u8) -> Result<(), Fault>
     ensures answer { result ≡ judged (limits_of quarters t) tt }
     ensures lawful { OnOk result (Lawful quarters t) }
 {
-    if t.first == 0 || t.first > quarters {
-        return Err(Fault::QuarterHour {
-            quarter: t.first,
-            height: 0,
-        });
-    }
-    if t.last == 0 || t.last > quarters {
-        return Err(Fault::QuarterHour {
-            quarter: t.last,
-            height: 0,
-        });
-    }
+    in_day(t.first, quarters)?;
+    in_day(t.last, quarters)?;
     if t.last < t.first {
-        return Err(Fault::QuarterHour {
-            quarter: t.first,
-            height: 0,
-        });
+        return Err(outside_day(t.first));
     }
-    if t.quantity == 0 || t.quantity > MOST_QUANTITY {
+    if !(1..=MOST_QUANTITY).contains(&t.quantity) {
         return Err(Fault::Limit);
     }
     if t.number == 0 || t.sender == 0 || t.partner == 0 || t.sender == t.partner {

@@ -5,7 +5,7 @@ ghost use Rattle.refusal.specs.Meaning.{about, values_of};
 use crate::fault::Fault;
 
 // The number of the refusal, and the record number, the quarter-hour and the height that it is about, each 0 where it is about none.
-// Nothing compares or prints them.
+// More derives would have no use.
 #[derive(Clone, Copy)]
 struct Values {
     number: u8,

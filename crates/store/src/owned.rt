@@ -9,7 +9,7 @@ ghost use Rattle.store.specs.Stored.{stored, blank};
 
 use crate::types::{Call, Store};
 use day::OpenDay;
-use memory::{Memory, NoticeRecord, Outside, Party, Point, Reading, pending};
+use memory::{Memory, NoticeRecord, Outside, Party, Point, ROW, Reading, pending};
 use refusal::Fault;
 use std::alloc::{AllocError, Global};
 use units::{Kwh, Mills};
@@ -26,16 +26,16 @@ impl Store {
             parties: vec![in heap; Party::default(); parties]?,
             points: vec![in heap; Point::default(); points]?,
             notices: vec![in heap; NoticeRecord::default(); notices]?,
-            readings: vec![in heap; None; points * 100]?,
-            outside: vec![in heap; Outside::default(); parties * 100]?,
-            imbalances: vec![in heap; Kwh::default(); parties * 100]?,
+            readings: vec![in heap; None; points * ROW]?,
+            outside: vec![in heap; Outside::default(); parties * ROW]?,
+            imbalances: vec![in heap; Kwh::default(); parties * ROW]?,
             amounts: vec![in heap; Mills::default(); parties]?,
             billed: vec![in heap; Mills::default(); parties]?,
             bills: vec![in heap; Mills::default(); parties]?,
         })
     }
 
-    // Enters a party upon the day. A day moves from state to state while the store stays, so a call is given both.
+    // Enters a party upon the day. No struct holds the two: it would be taken apart and made anew at each change of the day's state.
     pub fn enter_party(&mut self, day: &mut OpenDay, number: u16) -> Result<(), Fault>
         ensures { entering_party (open_extent day.old) (stored self.old) number ≡ record { answer = result; extent = open_extent day.new; memory = stored self.new } }
     {

@@ -16,7 +16,7 @@ pub struct Store {
 }
 
 // A call upon an open day, with what it is given. A closure in its place is not covered by the check, since it is passed a memory that
-// its caller gets back.
+// its caller gets back. More derives would have no use.
 #[derive(Clone, Copy)]
 pub(crate) enum Call<'a> {
     EnterParty(u16),
