@@ -1,8 +1,16 @@
 -- How many of a list's first elements pass a test.
-use Rattle.std.proofs.Common.{◌≡◌, ℕ, zero, suc, ◌+◌, ◌≤◌, min, Bool, true, false, cond, List, [], ◌∷◌, length, take, get_or, refl, ap, sym, ◌∙◌, arith}
-use Rattle.std.specs.List.{filter}
-use Rattle.std.proofs.lemmas.List.{take_min}
+use Rattle.std.proofs.Common.{◌≡◌, ℕ, zero, suc, ◌+◌, ◌≤◌, Bool, true, false, cond, List, [], ◌∷◌, length, take, get_or, refl, ap, sym, ◌∙◌, arith}
+use Rattle.std.specs.List.{sum_by}
+use Rattle.std.proofs.lemmas.List.Sums.{sum_by-cons}
 use Rattle.memory.specs.Pending.{how_many}
+
+at_most_one : (b : Bool) → cond b 1 0 ≤ 1
+at_most_one true = omega arith
+at_most_one false = omega arith
+
+pub at_most_all : (n : ℕ) (p : ℕ → Bool) → how_many n p ≤ n
+at_most_all zero p = omega arith
+at_most_all (suc n) p = omega (arith, at_most_all n p, at_most_one (p n))
 
 module _ {X : Type 0} (p : X → Bool) (d : X) where
   -- one element before the others
@@ -10,14 +18,7 @@ module _ {X : Type 0} (p : X → Bool) (d : X) where
   first x xs zero = omega arith
   first x xs (suc n) = omega (arith, first x xs n)
 
-  tested : (b : Bool) (n : ℕ) (x : X) (xs : List X) → p x ≡ b → length (filter p xs) ≡ n → length (filter p (x ∷ xs)) ≡ cond (p x) 1 0 + n
-  tested true n x xs e l = rw e (omega (arith, l))
-  tested false n x xs e l = rw e (omega (arith, l))
-
-  pub counted : (xs : List X) (n : ℕ) → n ≤ length xs → length (filter p (take n xs)) ≡ how_many n (λ j. p (get_or xs j d))
+  pub counted : (xs : List X) (n : ℕ) → n ≤ length xs → sum_by (λ x. cond (p x) 1 0) (take n xs) ≡ how_many n (λ j. p (get_or xs j d))
   counted xs zero l = refl
   counted [] (suc n) l = absurd (omega arith)
-  counted (x ∷ xs) (suc n) l = tested (p x) _ x (take n xs) refl (counted xs n (omega arith)) ∙ sym (first x xs n)
-
-  pub counted_all : (xs : List X) (n : ℕ) → length (filter p (take n xs)) ≡ how_many (min n (length xs)) (λ j. p (get_or xs j d))
-  counted_all xs n = ap (λ ys. length (filter p ys)) (sym (take_min n xs)) ∙ counted xs (min n (length xs)) (omega arith)
+  counted (x ∷ xs) (suc n) l = sum_by-cons (λ x. cond (p x) 1 0) x (take n xs) ∙ ap (λ k. cond (p x) 1 0 + k) (counted xs n (omega arith)) ∙ sym (first x xs n)

@@ -12,13 +12,12 @@ impl Stage {
     }
 }
 
-// The number of pending notices among the first `used` places, or among all where there are fewer: a slice of them would ask callers that there are so many.
+// The number of pending notices among the first `used` places, or among all where there are fewer.
 pub fn pending(notices: &[NoticeRecord], used: usize) -> usize
     ensures { result ≡ count_pending used notices.now }
 {
-    notices
+    notices[..used.min(notices.len())]
         .iter()
-        .take(used)
-        .filter(|notice| notice.stage.is_pending())
-        .count()
+        .map(|notice| usize::from(notice.stage.is_pending()))
+        .sum()
 }
