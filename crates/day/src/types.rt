@@ -1,6 +1,8 @@
 // The four states of a delivery day. Each is a type of its own that moves from call to call and cannot be copied:
 // a call that a state does not have does not compile. They share no generic type: it would take a marker and an
 // alias for each of them to share one line, that of `extent`.
+ghost use Rattle.std.specs.Prelude.{◌≡◌, true};
+
 use memory::Extent;
 
 // An open day takes parties, points and notices.
@@ -15,10 +17,22 @@ pub struct ShutDay {
     pub(crate) extent: Extent,
 }
 
-// A settled day has its imbalances and amounts. It is billed or taken back: it cannot be dropped, so that letting it go does not compile.
-#[must_use]
+// A settled day has its imbalances and amounts. It is billed or taken back, and may not be let go before that: the contract of its
+// `drop` asks that it is spent.
 pub struct SettledDay {
     pub(crate) extent: Extent,
+    pub(crate) spent: bool,
+}
+
+impl Drop for SettledDay {
+    fn drop(self)
+        requires { self.spent ≡ true }
+    {
+        let SettledDay {
+            extent: _,
+            spent: _,
+        } = self;
+    }
 }
 
 // A billed day can be reopened.
