@@ -27,11 +27,11 @@ no_notice zero rest none = refl
 no_notice (suc most) [] none = refl
 no_notice (suc most) (b ∷ bs) none = absurd (omega arith)
 
-logged_none : (place : ℕ) (e : Extent) (m : Held) (most : ℕ) (rest : List ℕ) → (most ≡ 0) ⊎ (length rest ≡ 0) → log_from place e m (notices_in most rest) ≡ []
+pub logged_none : (place : ℕ) (e : Extent) (m : Held) (most : ℕ) (rest : List ℕ) → (most ≡ 0) ⊎ (length rest ≡ 0) → log_from place e m (notices_in most rest) ≡ []
 unfolding log_from
 logged_none place e m most rest none = ap (log_from place e m) (no_notice most rest none)
 
-logged_more : (place : ℕ) (e : Extent) (m : Held) (most most' : ℕ) (rest : List ℕ) → most' + 1 ≡ most → 0 < length rest →
+pub logged_more : (place : ℕ) (e : Extent) (m : Held) (most most' : ℕ) (rest : List ℕ) → most' + 1 ≡ most → 0 < length rest →
     log_from place e m (notices_in most rest) ≡
     line_of place (noticing e m (take 14 rest)) ∷ log_from (place + 1) (noticing e m (take 14 rest)).extent (noticing e m (take 14 rest)).memory (notices_in most' (drop 14 rest))
 unfolding log_from

@@ -74,7 +74,7 @@ module _ (e : Extent) (none-party : e.parties ≡ 0) (none-point : e.points ≡ 
             };
       }
 
-  blank_begun : e.day.number ≡ 2 → e.day.count ≡ 96 → Begun 0 e m
+  pub blank_begun : e.day.number ≡ 2 → e.day.count ≡ 96 → Begun 0 e m
   blank_begun number count =
       record {
         number = number;

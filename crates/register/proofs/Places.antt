@@ -1,5 +1,5 @@
 -- What the place of a number says.
-use Rattle.std.proofs.Common.{◌≡◌, ℕ, zero, suc, ◌<◌, min, Bool, true, false, cond, ◌||◌, eqb, ◌≢◌, List, length, take, get_or, is_some, Some, None, Option, sym, refl, ap, ◌∙◌, ⊎_elim, arith, length-take, MatchOption}
+use Rattle.std.proofs.Common.{◌≡◌, ℕ, zero, suc, ◌<◌, min, Bool, true, false, cond, ◌||◌, eqb, ◌≢◌, List, length, take, get_or, is_some, Some, None, Option, sym, refl, ap, subst, ◌∙◌, ⊎_elim, arith, length-take, MatchOption}
 use Rattle.std.proofs.lemmas.Bool.{cases_order, cases_eq, eqb-true, eqb-false}
 use Rattle.std.proofs.lemmas.List.{get_or-take}
 use Rattle.std.specs.List.{AllWithin, HoldsAt}
@@ -50,3 +50,8 @@ module _ {R : Type 0} (numeral : R → ℕ) (unset : R) (n : ℕ) (xs : List R) 
   searched (Some i) f =
       let h : i < min used (length xs) = omega (arith, f.0, length-take used xs) in
       (h, in_front i h ∙ f.1 unset, λ k l s. f.2 k unset (omega arith) l (sym (in_front k (omega arith)) ∙ s))
+
+  -- the same of another bound that reaches as far
+  pub searched_as : (o : Option ℕ) → MatchOption o (AllWithin (λ r. numeral r ≢ n) ys 0 (length ys)) (λ i. (i < length ys) × HoldsAt (λ r. numeral r ≡ n) ys i × AllWithin (λ r. numeral r ≢ n) ys 0 i) →
+      (bound : ℕ) → min used (length xs) ≡ bound → MatchOption o (Unborne n (numbers numeral unset xs) bound) (FirstAt n (numbers numeral unset xs) bound)
+  searched_as o run bound same = subst (λ k. MatchOption o (Unborne n (numbers numeral unset xs) k) (FirstAt n (numbers numeral unset xs) k)) same (searched o run)

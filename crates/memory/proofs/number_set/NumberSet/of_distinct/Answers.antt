@@ -16,7 +16,7 @@ loop-record-preserved g c =
     let xs = c.args.records.now in
     let is = at_read m.numeral xs c.loop-record.record-index c.record-item.result c.number-number.result m.unset (omega arith) c.record-item.is c.number-number.ensures in
     taken_in c.loop-record.set (numbers m.numeral m.unset xs) c.loop-record.record-index c.number-number.result is c.loop-record.invariant.1 c.insert.new.self
-    c.insert.ensures.members c.if-number-eq-NO_NUMBER.false (not-true _ (sym c.insert.ensures.fresh ∙ c.if-not-insert.false)) c.loop-record.invariant.0
+    c.insert.ensures.members (omega arith) (not-true _ (sym c.insert.ensures.fresh ∙ c.if-not-insert.false)) c.loop-record.invariant.0
 
 pub returns-then-number-eq-NO_NUMBER : goal.returns-then-number-eq-NO_NUMBER
 returns-then-number-eq-NO_NUMBER g c =
@@ -25,7 +25,7 @@ returns-then-number-eq-NO_NUMBER g c =
     let is = at_read m.numeral xs c.loop-record.record-index c.record-item.result c.number-number.result m.unset (omega arith) c.record-item.is c.number-number.ensures in
     let why : (c.number-number.result ≡ 0) ⊎ (has c.loop-record.set c.number-number.result ≡ true) =
     elim c.then-number-eq-NO_NUMBER.branch [
-      | then-number-eq-NO_NUMBER-via-then-number-eq-NO_NUMBER w ↦ inl w.if-number-eq-NO_NUMBER.true
+      | then-number-eq-NO_NUMBER-via-then-number-eq-NO_NUMBER w ↦ inl (omega arith)
       | then-number-eq-NO_NUMBER-via-else-number-eq-NO_NUMBER+then-not-insert w ↦ inr (not-false _ (sym w.insert.ensures.fresh ∙ w.if-not-insert.true))
     ] in
     refused c.loop-record.set (numbers m.numeral m.unset xs) c.loop-record.record-index c.number-number.result is c.loop-record.invariant.1 why _ (omega arith)

@@ -42,7 +42,7 @@ returns c =
     let f = c.args.self.now in
     let granted = sym c.notice.ensures.answer ∙ c.in_ok-notice.was in
     let p = passed (notice_of f) _ (faults 100 f) granted in
-    let e = formed (packed f) c.check-sum.result c.copy_from_slice.new.self (drop 12 c.args.out.now) c.copy_from_slice-2.new.self (cc) (cc) (cc) (simp length-drop (omega arith)) in
+    let e = formed (packed f) c.check-sum.result c.copy_from_slice.new.self (drop 12 c.args.out.now) c.copy_from_slice-2.new.self (cc) (cc) ((cc) ∙ c.to_be_bytes-2.ensures ∙ ap (to_be_bytes w16) (omega arith)) (simp length-drop (omega arith)) in
     record {
       answer = sym (judged_then (faults 100 f) [] (notice_of f) _ tt granted);
       bytes = e;
