@@ -1,6 +1,6 @@
 use Rattle.std.proofs.Common.{◌≡◌, ℕ, ◌/◌, List, ◌++◌, drop, take, length, [], append-nil, sym, refl, ap, ◌∙◌, subst, arith}
 use Rattle.std.specs.Int.{to_be_bytes, w16, w128}
-use Rattle.std.proofs.lemmas.List.{drop_all, drop_at, length-drop, take_at}
+use Rattle.std.proofs.lemmas.List.{drop_all, drop_at, length-drop, length-set, take_at}
 use Rattle.std.proofs.lemmas.Result.{err_from_is_err_and}
 use borrow.Rule.Slice.PartMut.{put_mid}
 use Rattle.notice.specs.Form.{checked, notice_of, packed}
@@ -42,7 +42,7 @@ returns c =
     let f = c.args.self.now in
     let granted = sym c.notice.ensures.answer ∙ c.in_ok-notice.was in
     let p = passed (notice_of f) _ (faults 100 f) granted in
-    let e = formed (packed f) c.check-sum.result c.copy_from_slice.new.self (drop 12 c.args.out.now) c.copy_from_slice-2.new.self (cc) (cc) ((cc) ∙ c.to_be_bytes-2.ensures ∙ ap (to_be_bytes w16) (omega arith)) (simp length-drop (omega arith)) in
+    let e = formed (packed f) c.check-sum.result c.copy_from_slice.new.self _ c.copy_from_slice-2.new.self (cc) c.check-sum.ensures ((cc) ∙ c.to_be_bytes-2.ensures ∙ ap (to_be_bytes w16) (omega arith)) (simp (length-drop, length-set) (omega arith)) in
     record {
       answer = sym (judged_then (faults 100 f) [] (notice_of f) _ tt granted);
       bytes = e;
