@@ -45,13 +45,18 @@ module _ {R : Type 0} (numeral : R → ℕ) (unset : R) (n : ℕ) (xs : List R) 
   in_front : (k : ℕ) → k < min used (length xs) → numbers numeral unset xs k ≡ numeral (get_or ys k unset)
   in_front k l = ap numeral (sym (get_or-take used xs k unset (omega arith)))
 
-  pub searched : (o : Option ℕ) → MatchOption o (AllWithin (λ r. numeral r ≢ n) ys 0 (length ys)) (λ i. (i < length ys) × HoldsAt (λ r. numeral r ≡ n) ys i × AllWithin (λ r. numeral r ≢ n) ys 0 i) → MatchOption o (Unborne n (numbers numeral unset xs) (min used (length xs))) (FirstAt n (numbers numeral unset xs) (min used (length xs)))
+  -- what the search answered; and the same, said of the numbers below a bound
+  abbrev Run : Option ℕ → Type 0
+  Run o = MatchOption o (AllWithin (λ r. numeral r ≢ n) ys 0 (length ys)) (λ i. (i < length ys) × HoldsAt (λ r. numeral r ≡ n) ys i × AllWithin (λ r. numeral r ≢ n) ys 0 i)
+
+  abbrev Found : Option ℕ → ℕ → Type 0
+  Found o bound = MatchOption o (Unborne n (numbers numeral unset xs) bound) (FirstAt n (numbers numeral unset xs) bound)
+
+  pub searched : (o : Option ℕ) → Run o → Found o (min used (length xs))
   searched None f = λ k l s. f k unset (omega arith) (omega (arith, length-take used xs)) (sym (in_front k l) ∙ s)
   searched (Some i) f =
       let h : i < min used (length xs) = omega (arith, f.0, length-take used xs) in
       (h, in_front i h ∙ f.1 unset, λ k l s. f.2 k unset (omega arith) l (sym (in_front k (omega arith)) ∙ s))
 
-  -- the same of another bound that reaches as far
-  pub searched_as : (o : Option ℕ) → MatchOption o (AllWithin (λ r. numeral r ≢ n) ys 0 (length ys)) (λ i. (i < length ys) × HoldsAt (λ r. numeral r ≡ n) ys i × AllWithin (λ r. numeral r ≢ n) ys 0 i) →
-      (bound : ℕ) → min used (length xs) ≡ bound → MatchOption o (Unborne n (numbers numeral unset xs) bound) (FirstAt n (numbers numeral unset xs) bound)
-  searched_as o run bound same = subst (λ k. MatchOption o (Unborne n (numbers numeral unset xs) k) (FirstAt n (numbers numeral unset xs) k)) same (searched o run)
+  pub searched_to : (o : Option ℕ) → Run o → (bound : ℕ) → min used (length xs) ≡ bound → Found o bound
+  searched_to o run bound same = subst (Found o) same (searched o run)
