@@ -11,6 +11,7 @@ use Rattle.memory.specs.declared.types.NoticeRecord.{NoticeRecord}
 abbrev waits : NoticeRecord → Bool
 waits n = is_pending n.stage
 
+-- 1 for a notice that waits, and 0 for another
 abbrev one : NoticeRecord → ℕ
 one n = cond (waits n) 1 0
 
